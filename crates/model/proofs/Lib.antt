@@ -1,0 +1,15 @@
+-- Examples, each closed by computing. The laws are in the crate laws.
+-- what a claim opens, and how its records are written
+pub mod Computed
+pub mod Build
+-- W1 to W14 of document 01; rows that its table leaves out
+mod Rows
+mod Table
+mod Further
+-- whole functions: the worked example, a match, the refusals, the limits
+mod Worked
+mod Match
+mod Refusals
+mod Limits
+-- the calls on states
+mod States
