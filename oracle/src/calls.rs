@@ -43,7 +43,7 @@ pub fn ghost_statements(
     let mut stmts = GhostStatements::default();
     add_ghost_statements(&mut stmts, &genv, &body, &mut bb_envs)?;
     let counts = stmts.write_record(out)?;
-    write_shares(&body, &bb_envs, store_forms, store_whats)?;
+    write_shares(&body, &bb_envs, store_forms, store_whats);
     Ok(counts)
 }
 
@@ -52,16 +52,15 @@ fn write_shares(
     bb_envs: &HashMap<BasicBlock, Env>,
     store_forms: &mut [u16],
     store_whats: &mut [u16],
-) -> Result<(), Refusal> {
+) {
     for (share, bb) in body.join_points().enumerate() {
         if let Some(env) = bb_envs.get(&bb) {
-            let state = State::encode(env)?;
+            let state = State::encode(env).expect("9 was tested when it was stored");
             let entries = share * MAX_NODES..(share + 1) * MAX_NODES;
             store_forms[entries.clone()].copy_from_slice(&state.forms);
             store_whats[entries].copy_from_slice(&state.whats);
         }
     }
-    Ok(())
 }
 
 /// Walks a place and folds what it reaches.

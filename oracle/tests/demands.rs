@@ -51,7 +51,7 @@ fn accepted(function: &Function) -> (GhostStatements, Vec<u16>, Vec<u16>) {
 fn replay_along_random_jumps() {
     let mut rng = Rng::new(1);
     let mut jumps = 0;
-    for function in functions(2, 3000, Some(0)) {
+    for function in functions(2, 2000, Some(0)) {
         let (stmts, forms, whats) = accepted(&function);
         let mut arrived: HashMap<usize, Env> = HashMap::new();
         for _ in 0..8 {
@@ -59,7 +59,7 @@ fn replay_along_random_jumps() {
         }
         check_store(&function, &arrived, &forms, &whats);
     }
-    assert!(jumps > 50_000, "{jumps}");
+    assert!(jumps > 20_000, "{jumps}");
 }
 
 /// Follows one list of jumps. Nothing is refused, each use finds its place settled, and every
@@ -101,7 +101,7 @@ fn check_store(function: &Function, arrived: &HashMap<usize, Env>, forms: &[u16]
 #[test]
 fn the_second_pass_refuses_nothing() {
     let mut refused = 0;
-    for Function { genv, body, .. } in functions(3, 4000, None) {
+    for Function { genv, body, .. } in functions(3, 2500, None) {
         let mut bb_envs = HashMap::new();
         if FoldUnfoldAnalysis::new(&genv, &body, &mut bb_envs, Infer).run().is_err() {
             refused += 1;
@@ -128,7 +128,7 @@ fn check_statements(body: &Body, stmts: &GhostStatements) {
 
 #[test]
 fn no_block_twice_on_a_way() {
-    for Function { body, .. } in functions(4, 4000, None) {
+    for Function { body, .. } in functions(4, 2500, None) {
         let starts = body.join_points().chain([START_BLOCK]);
         for start in starts {
             follow(&body, start, &mut vec![]);

@@ -34,14 +34,14 @@ fn every_refusal_of_every_call() {
     for (call, refusals) in GIVES {
         for size in [Size::Small, Size::Normal] {
             for &want in refusals {
-                for case in some(Kind::Call(call), size, want, 20) {
+                for case in some(Kind::Call(call), size, want, 10) {
                     assert_eq!(case.refusal(), want);
                     assert_eq!(case.call, call);
                 }
             }
         }
     }
-    some(Kind::Call(Call::Ghosts), Size::Normal, 10, 20);
+    some(Kind::Call(Call::Ghosts), Size::Normal, 10, 10);
 }
 
 #[test]
@@ -56,7 +56,7 @@ fn small_cases_are_small() {
         }
     }
     for case in some(Kind::Call(Call::Whole), Size::Small, 9, 200) {
-        assert!(case.function[3] <= 80 && case.types.len() < 600);
+        assert!(case.function[3] <= 80 && case.types.len() < 140, "{}", case.types.len());
     }
 }
 

@@ -341,6 +341,23 @@ fn reading_9_where_a_run_tests_it() {
 }
 
 #[test]
+fn reading_9_at_a_join() {
+    let run = |texts: &[&str]| run(&wide_types(), &function(&[1, 1, 5], "", texts)).map(|_| ());
+    // The join comes before block 3 is visited, and after block 2's own statements.
+    let open = ["switch 0>1 2", "use _0.0; goto 3", "use _1.0; goto 3", "use _0.*; stop"];
+    assert_eq!(run(&open), Err(9));
+    let late = ["switch 0>1 2", "use _0.0; goto 3", "use _1.0; use _0.*; goto 3", "stop"];
+    assert_eq!(run(&late), Err(5));
+    // Behind a mutable reference the other side's nodes are folded away.
+    let folded = ["switch 0>1 2", "use _0.0; goto 3", "use _2.*.0; goto 3", "stop"];
+    assert_eq!(run(&folded), Ok(()));
+    // A join's 9 comes before what the next target of the same block would refuse.
+    let first =
+        ["switch 0>1 1>2 4", "use _0.0; goto 3", "use _1.0; goto 3", "stop", "use _0.*; stop"];
+    assert_eq!(run(&first), Err(9));
+}
+
+#[test]
 fn reading_9_the_first_walk_of_a_match() {
     // The read place is folded away after the note; the match walks it again, past 512 nodes.
     let draft = |switch: &str| {

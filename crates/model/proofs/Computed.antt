@@ -10,6 +10,7 @@ use Rattle.model.specs.Measure
 use Rattle.model.specs.Passes
 use Rattle.model.specs.Place
 use Rattle.model.specs.Record
+use Rattle.model.specs.Replay
 use Rattle.model.specs.Rounds
 use Rattle.model.specs.State
 use Rattle.model.specs.Tree
@@ -49,12 +50,14 @@ unfolding
     Body.enter-uses Body.use-at Body.pass-stations Body.variants-from Body.variants Body.variant-of Body.without Body.only
     Body.choice Body.open-variant Body.match-targets Body.exits-of Body.ret-lines Body.body Body.frame
     Record.elem-entry Record.verb-entry Record.point-entry Record.line-entries Record.entries Record.statement-record
-    Record.lent
+    Record.lent Record.gather-one Record.gather Record.recorded
     Whole.passes Whole.ghost-statements Whole.with-buffer Whole.share Whole.joined Whole.shares Whole.accepted Whole.denied
     Whole.result Whole.shorter Whole.found Whole.whole
     Calls.typed Calls.taken Calls.elems-of Calls.spot-of Calls.placed Calls.recorded-verb Calls.recorded-as
     Calls.call-projection Calls.call-downcast Calls.statement-ok Calls.statement-at Calls.call-carry Calls.call-join
     Calls.written Calls.call-collect Calls.call-unfolds Calls.call-folds
+    Replay.at-point Replay.find Replay.look Replay.stand Replay.through Replay.opens-at Replay.cast-maybe Replay.own Replay.script
+    Replay.play Replay.replay
     Ghosts.close Ghosts.digit Ghosts.scan-byte Ghosts.scan Ghosts.words-of Ghosts.types-length Ghosts.function-length
     Ghosts.function-words Ghosts.analysed Ghosts.decimal Ghosts.elem-text Ghosts.place-text Ghosts.point-text Ghosts.verb-text
     Ghosts.line-text Ghosts.lines-text Ghosts.answer-text Ghosts.printed Ghosts.ghosts

@@ -4,9 +4,9 @@ use mathlib.Core.Bool.{true}
 use mathlib.Core.List.{List, [], _∷_, map}
 use Prim.Native.Nat.{ℕ}
 use Rattle.model.specs.Types.{types-ok}
-use Rattle.model.specs.Place.{deref, field, downcast, index, Place}
+use Rattle.model.specs.Place.{deref, field, downcast, index}
 use Rattle.model.proofs.Build.{opaque, plain, mutable, box, array, struct, enum, variant, closure, types-of}
-use Rattle.model.proofs.Rows.{F, S, T, *, V0, Shape, open-at, none, also, Input, join-of, use-in, from-to, at-return, Result, gives, records, refuses, fold-1, unfold-1, yes, no, Row, row, computed-row, stated-row}
+use Rattle.model.proofs.Rows.{F, S, T, *, V0, Shape, open-at, none, also, join-of, use-in, from-to, at-return, gives, records, refuses, fold-1, unfold-1, yes, no, Row, row, computed-row, stated-row}
 use Rattle.model.proofs.Computed.{computed}
 
 -- 0 opaque, 1 struct(0,0), 2 mutable reference to 1, 3 variant value 0 no field, 4 variant value 1 (1,2), 5 enum(3,4),

@@ -8,6 +8,7 @@ mod Table
 mod Further
 -- whole functions: the worked example, a match, the refusals, the limits
 mod Worked
+mod Replays
 mod Match
 mod Refusals
 mod Limits

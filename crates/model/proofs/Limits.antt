@@ -5,9 +5,8 @@ use mathlib.Core.List.{List, [], _∷_, _++_, map}
 use Prim.Native.Nat.{ℕ}
 use lib.ListN.{replicate}
 use Rattle.model.specs.Answer.{Answer, refused, done}
-use Rattle.model.specs.State.{State}
 use Rattle.model.specs.Place.{Verb, Fold, Unfold}
-use Rattle.model.specs.Whole.{Result, whole}
+use Rattle.model.specs.Whole.{whole}
 use Rattle.model.specs.Calls.{call-carry}
 use Rattle.model.proofs.Build.{Item, opaque, array, struct, types-of, root, field, index, used, return, function-of, state-of, numbers, joined}
 use Rattle.model.proofs.Computed.{computed}

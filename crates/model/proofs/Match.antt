@@ -3,7 +3,7 @@
 use mathlib.Core.Path.{_≡_, refl}
 use mathlib.Core.List.{List, [], _∷_}
 use Prim.Native.Nat.{ℕ}
-use Rattle.model.specs.Ghosts.{answer-text, analysed, function-words}
+use Rattle.model.specs.Ghosts.{answer-text}
 use Rattle.model.specs.Block.{entry-point}
 use Rattle.model.specs.Whole.{found}
 use Rattle.model.proofs.Build.{bytes, opaque, enum, variant, types-of, root, field, downcast, used, read, note, switch, arm, target, return, function-of}

@@ -4,8 +4,7 @@ use mathlib.Core.List.{List, [], _∷_, _++_}
 use Prim.Native.Nat.{ℕ}
 use lib.ListN.{replicate}
 use Rattle.model.specs.Answer.{Answer, refused, done}
-use Rattle.model.specs.State.{State}
-use Rattle.model.specs.Whole.{Result, whole}
+use Rattle.model.specs.Whole.{whole}
 use Rattle.model.specs.Calls.{call-join, call-collect}
 use Rattle.model.proofs.Build.{Item, opaque, struct, enum, variant, types-of, root, deref, field, downcast, used, read, note, switch, arm, target, return, stop, function-of, state-of}
 use Rattle.model.proofs.Computed.{computed}

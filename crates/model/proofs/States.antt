@@ -3,10 +3,10 @@ use mathlib.Core.Path.{_≡_, refl}
 use mathlib.Core.Bool.{true, false}
 use mathlib.Core.List.{List, [], _∷_}
 use Prim.Native.Nat.{ℕ}
-use Rattle.model.specs.Answer.{Answer, refused, done}
+use Rattle.model.specs.Answer.{refused, done}
 use Rattle.model.specs.State.{State}
 use Rattle.model.specs.Place.{Fold, Unfold}
-use Rattle.model.specs.Calls.{Recorded, nothing, fold, unfold-at, call-projection, call-downcast, call-carry, call-join, call-collect, call-unfolds, call-folds}
+use Rattle.model.specs.Calls.{fold, unfold-at, call-projection, call-downcast, call-carry, call-join, call-collect, call-unfolds, call-folds}
 use Rattle.model.proofs.Build.{opaque, mutable, struct, enum, variant, types-of, state-of}
 use Rattle.model.proofs.Computed.{computed}
 

@@ -4,14 +4,14 @@ use mathlib.Core.Bool.{true}
 use mathlib.Core.List.{List, [], _∷_, map}
 use Prim.Native.Nat.{ℕ}
 use Rattle.model.specs.Types.{types-ok}
-use Rattle.model.specs.Place.{deref, field, downcast, Place}
+use Rattle.model.specs.Place.{deref, field, downcast}
 use Rattle.model.proofs.Rows.{F, S, T, *, V0, V1, Shape, Input, join-of, use-in, from-to, at-return, Result, gives, refuses, fold-1, unfold-1, yes, no, Row, row, computed-row, stated-row}
 use Rattle.model.proofs.Computed.{computed}
 
 -- 0 opaque, 1 struct(0,0), 2 mutable reference to 1, 3 variant value 0 no field, 4 variant value 1 (0), 5 enum(3,4), 6 plain
 -- pointer to 1, 7 tuple(1), 8 array, 9 mutable reference to 7
-abbrev types : List ℕ
-types =
+abbrev Γ : List ℕ
+Γ =
     10 ∷ 11
     ∷ 0 ∷ 6 ∷ 2 ∷ 8 ∷ 8 ∷ 7 ∷ 1 ∷ 5 ∷ 4 ∷ 2
     ∷ 0 ∷ 2 ∷ 1 ∷ 1 ∷ 2 ∷ 2 ∷ 1 ∷ 1 ∷ 0 ∷ 1
@@ -42,11 +42,11 @@ table =
     ∷ []
 
 -- the type record passes
-types-pass : types-ok types ≡ true
+types-pass : types-ok Γ ≡ true
 unfolding computed
 types-pass = refl
 
 -- in every row the definitions give what it says
-marked : map (computed-row types) table ≡ map (stated-row types) table
+marked : map (computed-row Γ) table ≡ map (stated-row Γ) table
 unfolding computed computed-row stated-row
 marked = refl

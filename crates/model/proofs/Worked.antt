@@ -1,10 +1,10 @@
 -- Document 01's worked example, whole: what `ghosts` prints, and what the whole-function call leaves in all that it is lent.
 use mathlib.Core.Path.{_≡_, refl}
-use mathlib.Core.List.{List, [], _∷_, _++_}
+use mathlib.Core.List.{List, [], _∷_}
 use Prim.Native.Nat.{ℕ}
 use lib.ListN.{replicate}
-use Rattle.model.specs.Answer.{Answer, done}
-use Rattle.model.specs.Whole.{Result, whole}
+use Rattle.model.specs.Answer.{done}
+use Rattle.model.specs.Whole.{whole}
 use Rattle.model.specs.Ghosts.{ghosts}
 use Rattle.model.proofs.Build.{bytes}
 use Rattle.model.proofs.Computed.{computed}
@@ -14,10 +14,10 @@ printed : ghosts (bytes "2 2 0 6 0 2 0 0\n2 1 4 12 0 1 0 7 10 11 0 1 2 3 0 2 5 8
 unfolding computed
 printed = refl
 
-abbrev types : List ℕ
+abbrev pub types : List ℕ
 types = 2 ∷ 2 ∷ 0 ∷ 6 ∷ 0 ∷ 2 ∷ 0 ∷ 0 ∷ []
 
-abbrev function : List ℕ
+abbrev pub function : List ℕ
 function =
     2 ∷ 1 ∷ 4 ∷ 12
     ∷ 0 ∷ 1

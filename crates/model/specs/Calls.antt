@@ -103,7 +103,7 @@ module _ (Γ locals : List ℕ) where
   unfoldable pub call-unfolds : State → ℕ → Answer (List ℕ)
   call-unfolds s n = typed Γ locals λ _. taken Γ locals s λ S. unfoldss Γ S >>= written n
 
-  -- at return; "an A not below L is 3"
+  -- at return; an A not below L is 3
   unfoldable pub call-folds : ℕ → State → ℕ → Answer (List ℕ)
   call-folds args s n = typed Γ locals λ _. require (ltb args (length locals)) 3 λ _. taken Γ locals s λ S.
       written n (folds-at-ret Γ args S)

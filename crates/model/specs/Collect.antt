@@ -26,6 +26,12 @@ abbrev pub folded : Forest → Bool
 folded nil = true
 folded (more s ss) = not (unfolded s) && folded ss
 
+-- the first n trees
+abbrev pub firsts : ℕ → Forest → Forest
+firsts zero ss = nil
+firsts (suc n) nil = nil
+firsts (suc n) (more s ss) = more s (firsts n ss)
+
 module _ (Γ : List ℕ) where
   -- what opens a folded tree until it is as this. 7: "a variant whose fields are all folded must be unfolded and the
   -- statement can't say which"
@@ -62,12 +68,6 @@ module _ (Γ : List ℕ) where
     pub foldss : Forest → List At
     foldss nil = []
     foldss (more s ss) = both (folds s) (foldss ss)
-
-  -- the first n trees
-  abbrev pub firsts : ℕ → Forest → Forest
-  firsts zero ss = nil
-  firsts (suc n) nil = nil
-  firsts (suc n) (more s ss) = more s (firsts n ss)
 
   -- of the arguments, the locals 1 to A
   unfoldable pub folds-at-ret : ℕ → Forest → List At

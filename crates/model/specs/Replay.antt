@@ -1,4 +1,4 @@
--- The replay of a statement record along a list of target items, as document 01 defines it.
+-- The replay of a statement record along a list of target items, as document 01 defines it, and demand 3, which speaks of it.
 -- Its state: a block and one tree per local, folded at first. It carries out the entry's statements, then stands at the start
 -- block's start. In a block it goes in item order: at use, read, note, switch and return it carries out the point's statements, in
 -- record order, then walks the place used, if any, on a copy. A jump takes a target item of the block's ender and does first that
@@ -19,6 +19,7 @@ use Rattle.model.specs.Block.{Station, stations, entry-point, targets, m
 use Rattle.model.specs.Frame.{Line}
 use Rattle.model.specs.Body.{Left, variants, choice}
 use Rattle.model.specs.Record.{recorded}
+use Rattle.model.specs.Whole.{whole}
 
 -- what is recorded at a point, in order
 unfoldable pub at-point : {Stmt : Type 0} → ℕ → List (Line Stmt) → List Stmt
@@ -87,3 +88,23 @@ module _ (Γ fn words : List ℕ) where
 
   unfoldable pub replay : List ℕ → Answer (ℕ × Forest)
   replay is = carries-at Γ (script (entry-point fn)) (leaves (local-types fn)) >>= λ E. play is 0 E
+
+-- DEMAND 3
+
+-- a list of jumps from the block b to the block d: each takes a target item of the block where the last one ended
+pub data Jumps (fn : List ℕ) : ℕ → List ℕ → ℕ → Type 0 where
+  jumps-end : {b : ℕ} → Jumps fn b [] b
+  jumps-on : {b i c d : ℕ} {is : List ℕ} → find i (targets fn b) ≡ some c → Jumps fn c is d → Jumps fn b (i ∷ is) d
+
+-- one claim over all lists of jumps, the empty one too, whichever targets the switches take
+pub record Replayed (Γ fn words : List ℕ) : Type 0 where
+  -- the replay meets no refusal and comes to the block where the list ends, and each place used there has, at that point, a walk
+  -- that isn't refused, changes no tree and ends on a folded node
+  pub works : {is : List ℕ} {b : ℕ} → Jumps fn 0 is b → (D : Forest) × (replay Γ fn words is ≡ done (b, D)) × Fine Γ (script Γ fn words) (stations fn b) D
+  -- every two lists that end in one block give equal states at its start
+  pub agrees : {is js : List ℕ} {b : ℕ} → Jumps fn 0 is b → Jumps fn 0 js b → replay Γ fn words is ≡ replay Γ fn words js
+
+-- for every type record, function record and lent lengths that give a statement record: of that record. (demand, Demand: `demand-3`)
+abbrev pub Demand-3 : Type 0
+Demand-3 = (Γ fn : List ℕ) (nforms nwhats nout : ℕ) (c : ℕ × ℕ) → (whole Γ fn nforms nwhats nout) .answer ≡ done c
+    → Replayed Γ fn ((whole Γ fn nforms nwhats nout) .out)

@@ -29,6 +29,10 @@ Code = ℕ × ℕ
 
 -- WRITING
 
+-- zeros behind a list, up to 512 in all
+unfoldable pub padded : List ℕ → List ℕ
+padded l = l ++ replicate (most - length l) 0
+
 module _ (Γ : List ℕ) where
   unfoldable mutual
     pub codes : Tree → List Code
@@ -38,10 +42,6 @@ module _ (Γ : List ℕ) where
     pub codess : Forest → List Code
     codess nil = []
     codess (more s ss) = codes s ++ codess ss
-
-  -- zeros behind a list, up to 512 in all
-  unfoldable pub padded : List ℕ → List ℕ
-  padded l = l ++ replicate (most - length l) 0
 
   unfoldable pub encode : Forest → State
   encode E = record {
@@ -111,7 +111,7 @@ decode Γ locals s = elim (shaped s) [
   | false ↦ none
 ]
 
--- "a count not 1 to 256, a type not below T or of kind 8 is 3"
+-- local types that are none: a count not 1 to 256, a type not below T or of kind 8
 unfoldable pub local-ok : List ℕ → List ℕ → ℕ → Bool
 local-ok Γ locals l = ltb (word locals l) (ntypes Γ) && not (eqb (kind Γ (word locals l)) 8)
 

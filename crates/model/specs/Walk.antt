@@ -146,7 +146,7 @@ module _ (Γ : List ℕ) where
 
   -- IN A RUN
 
-  -- "9: the result would have over 512 nodes"
+  -- refusal 9: the result would have over 512 nodes
   unfoldable pub fitting : Forest → Answer Forest
   fitting E = require (leb (sizes E) most) 9 (λ _. done E)
 

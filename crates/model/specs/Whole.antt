@@ -62,7 +62,7 @@ module _ (Γ fn : List ℕ) (nforms nwhats nout : ℕ) where
     out = lent nout (statement-record (entry-point fn) (f .lines));
   }
 
-  -- "a refusal zeroes lent output and store"
+  -- a refusal leaves zeros in all that was lent
   unfoldable pub denied : ℕ → Result
   denied r = record { answer = refused r; forms = replicate nforms 0; whats = replicate nwhats 0; out = replicate nout 0 }
 

@@ -5,6 +5,7 @@ use super::{
     draft::{push_note, push_return, push_switch, push_target, push_use, Draft, Item},
     rng::Rng,
     types::TypeList,
+    Size,
 };
 use crate::{
     env::Env,
@@ -36,8 +37,9 @@ struct Plan {
 }
 
 impl Plan {
-    fn new(rng: &mut Rng, total: usize) -> Plan {
-        let wide = rng.range(2, 8);
+    /// With more locals to open, a small record has fewer parts.
+    fn new(rng: &mut Rng, total: usize, size: Size) -> Plan {
+        let wide = if size == Size::Small { rng.range(6, 10) } else { rng.range(2, 8) };
         let to_open = total - (wide + 3);
         let fields = to_open / wide - rng.range(0, 3) - 1;
         Plan { wide, fields, rest: to_open - wide * fields }
@@ -53,11 +55,11 @@ impl Plan {
 }
 
 /// A function whose state reaches exactly `total` nodes, at the place asked for.
-pub fn full_function(rng: &mut Rng, total: usize, at: Where) -> (TypeList, Draft) {
+pub fn full_function(rng: &mut Rng, total: usize, at: Where, size: Size) -> (TypeList, Draft) {
     if at == Where::Walk {
-        return full_walk(rng, total);
+        return full_walk(rng, total, size);
     }
-    let plan = Plan::new(rng, total);
+    let plan = Plan::new(rng, total, size);
     let mut types = TypeList::default();
     types.push(TyKind::Opaque, vec![]);
     let wide = types.push(struct_kind(rng), vec![0; plan.fields]);
@@ -148,8 +150,8 @@ fn open(rng: &mut Rng, items: &mut Vec<Item>, locals: &[usize], fields: usize) {
 }
 
 /// One use that opens all: a box in each field of a struct, and a struct in each box.
-fn full_walk(rng: &mut Rng, total: usize) -> (TypeList, Draft) {
-    let fields = rng.range(17, 60);
+fn full_walk(rng: &mut Rng, total: usize, size: Size) -> (TypeList, Draft) {
+    let fields = if size == Size::Small { rng.range(17, 30) } else { rng.range(17, 60) };
     let pairs = (total - 4) / (fields + 1);
     let rest = total - 3 - pairs * (fields + 1);
     let mut types = TypeList::default();
@@ -176,8 +178,8 @@ fn full_walk(rng: &mut Rng, total: usize) -> (TypeList, Draft) {
 }
 
 /// Types, locals, a state of at most 512 nodes, and a place that opens it to exactly `total`.
-pub fn full_state(rng: &mut Rng, total: usize) -> (TypeList, Vec<Ty>, Env, Place) {
-    let (types, draft) = full_function(rng, total, Where::Use);
+pub fn full_state(rng: &mut Rng, total: usize, size: Size) -> (TypeList, Vec<Ty>, Env, Place) {
+    let (types, draft) = full_function(rng, total, Where::Use, size);
     let genv = Types::read(&types.words()).expect("good types");
     let mut env = Env::new(&draft.local_types);
     let opener = draft.local_types.len() - 2;

@@ -5,6 +5,7 @@ use super::{
     full::{full_function, full_state, PLACES},
     rng::Rng,
     types::TypeList,
+    Size,
 };
 use crate::{
     case::{Call, Case},
@@ -158,11 +159,11 @@ fn node_count(cases: &mut Vec<Named>) {
     let mut rng = Rng::new(512);
     for at in PLACES {
         for total in round(MAX_NODES) {
-            let (types, draft) = full_function(&mut rng, total, at);
+            let (types, draft) = full_function(&mut rng, total, at, Size::Normal);
             cases.push((format!("nodes {total} at {at:?}"), whole(types.words(), &draft)));
         }
     }
-    let (types, local_types, env, place) = full_state(&mut rng, MAX_NODES + 1);
+    let (types, local_types, env, place) = full_state(&mut rng, MAX_NODES + 1, Size::Normal);
     let mut places: Vec<Place> = (1..place.local)
         .filter(|&local| !env.map[local].is_ty())
         .map(|local| Place::new(local, vec![PlaceElem::Field(0)]))
@@ -366,7 +367,7 @@ fn state_places(cases: &mut Vec<Named>) {
 fn state_results(cases: &mut Vec<Named>) {
     let mut rng = Rng::new(513);
     for total in round(MAX_NODES) {
-        let (types, locals, env, place) = full_state(&mut rng, total);
+        let (types, locals, env, place) = full_state(&mut rng, total, Size::Normal);
         for call in [Call::Projection, Call::Fold, Call::Unfold] {
             let at = if call == Call::Unfold { place.truncate(0) } else { place.clone() };
             let case = on_state(call, &types, locals.clone(), encode(&env), &at);

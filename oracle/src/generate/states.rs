@@ -26,7 +26,7 @@ const MAX_STATEMENT: usize = 130;
 /// One case of a call on states, of any answer.
 pub fn random_case(rng: &mut Rng, call: Call, size: Size) -> Case {
     let mut case = match rng.chance(if size == Size::Small { 3 } else { 10 }) {
-        true => full_case(rng, call),
+        true => full_case(rng, call, size),
         false => usual_case(rng, call, size),
     };
     case.number = match call {
@@ -224,9 +224,9 @@ fn other_variant(rng: &mut Rng, genv: &Types, env: &Env) -> Option<Place> {
 }
 
 /// A case whose result has about 512 nodes.
-fn full_case(rng: &mut Rng, call: Call) -> Case {
+fn full_case(rng: &mut Rng, call: Call, size: Size) -> Case {
     let total = rng.range(510, 514);
-    let (types, mut locals, env, place) = full_state(rng, total);
+    let (types, mut locals, env, place) = full_state(rng, total, size);
     let genv = Types::read(&types.words()).expect("good types");
     let mut case = Case { types: types.words(), ..Case::new(call) };
     let mut second = Env::new(&locals);

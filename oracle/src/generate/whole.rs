@@ -29,11 +29,11 @@ fn attempt(rng: &mut Rng, size: Size, want: u32) -> Case {
         9 => {
             let total = rng.pick(&[513, 513, 513, 514, 520, 540]);
             let at = rng.pick(&PLACES);
-            full_function(rng, total, at)
+            full_function(rng, total, at, size)
         }
         0 if size != Size::Small && rng.chance(3) => {
             let (total, at) = (rng.range(508, 512), rng.pick(&PLACES));
-            full_function(rng, total, at)
+            full_function(rng, total, at, size)
         }
         _ => random_pair(rng, size, fault_for(want)),
     };

@@ -4,10 +4,8 @@
 use oracle::{
     calls,
     env::Env,
-    function::{NOTE, READ, STOP},
-    generate::draft::{
-        push_note, push_place, push_return, push_switch, push_target, push_use, Draft, Item,
-    },
+    function::STOP,
+    generate::draft::{push_note, push_return, push_switch, push_target, push_use, Draft, Item},
     ghost_statements::GhostStatements,
     place::{Place, PlaceElem},
     place_node::PlaceNode,
@@ -208,13 +206,4 @@ pub fn lines(out: &[u32]) -> Vec<String> {
 
 pub fn number<A>(result: Result<A, Refusal>) -> u32 {
     result.err().map_or(0, Refusal::number)
-}
-
-/// [place read] and [place note] alone, for records whose items are out of order.
-pub fn half(text: &str, op: u32) -> Vec<Item> {
-    assert!(op == READ || op == NOTE);
-    let mut items = vec![];
-    push_place(&mut items, &place(text));
-    items.push((op, 0));
-    items
 }

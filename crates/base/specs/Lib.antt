@@ -1,0 +1,20 @@
+-- What the theorems about trees (crate laws) and those about records (crate records) both stand on. In the order in which a reader
+-- should meet it:
+-- case splits, tests as equations
+pub mod Tests
+-- laws of answers: `Good`, what is accepted; `Accepted`; what is refused
+pub mod Answer
+-- a fact of each element of a list: `Each`
+pub mod Each
+-- tests, sums and counts over the numbers below n
+pub mod Below
+-- the numbers that are collected because they pass
+pub mod Collected
+-- the kinds of types as tests, and by cases
+pub mod Kinds
+-- the parts of a type, and the children of an open node
+pub mod Parts
+-- what a type record that passes refusal 1 says: `types-typed`; and local types that pass: `locals-typed`
+pub mod Typed
+-- what a function record that passes refusal 2 says: `function-facts`
+pub mod Function

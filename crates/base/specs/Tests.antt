@@ -1,0 +1,71 @@
+-- Case splits that keep the equation, and what a conjunction or a disjunction says. Nothing of any record or tree. What the tests
+-- eqb, ltb, leb and not say is in `borrow.Author.Tests`.
+use mathlib.Core.Path.{_≡_, refl, sym, _∙_}
+use mathlib.Core.Logic.{_↔_}
+use mathlib.Core.Bool.{Bool, true, false, cond, _&&_, _||_, true≢false}
+use mathlib.Core.Option.{Option, none, some}
+use Prim.Native.Nat.{ℕ}
+use lib.Dec.{eqb}
+use borrow.Author.Tests.{eqb-true, eq-eqb}
+
+-- CASES
+
+-- by cases on b: `split (p i) (λ e. ..) (λ e. ..)`, with e in reach of `cc`
+pub split : {P : Type 0} (b : Bool) → (b ≡ true → P) → (b ≡ false → P) → P
+split true f g = f refl
+split false f g = g refl
+
+-- the same on what may be there
+pub split-option : {A P : Type 0} (o : Option A) → (o ≡ none → P) → ((a : A) → o ≡ some a → P) → P
+split-option none f g = f refl
+split-option (some a) f g = g a refl
+
+-- the same where the goal is of a `cond` and is no path: `cond-split (Fit Γ t) b (λ e. ..) (λ e. ..)`
+pub cond-split : {A : Type 0} {x y : A} (P : A → Type 0) (b : Bool) → (b ≡ true → P x) → (b ≡ false → P y)
+    → P (cond b x y)
+cond-split P true f g = f refl
+cond-split P false f g = g refl
+
+-- no test passes and fails
+pub clash : {b : Bool} → b ≡ true → b ≡ false → ⊥
+clash e d = true≢false (sym e ∙ d)
+
+-- what fails exactly if P holds passes exactly if not
+pub passes-exactly : {P : Type 0} (b : Bool) → (b ≡ false) ↔ P → (b ≡ true) ↔ ¬ P
+passes-exactly b h = (λ e p. clash e (h .1 p), λ n. split b (λ e. e) (λ e. absurd (n (h .0 e))))
+
+-- CONNECTIVES
+
+-- a conjunction passes: its first test does
+pub and-left : (a b : Bool) → a && b ≡ true → a ≡ true
+and-left true b e = refl
+and-left false b e = e
+
+-- and its second
+pub and-right : (a b : Bool) → a && b ≡ true → b ≡ true
+and-right true b e = e
+and-right false b e = cc
+
+-- both pass: so does the conjunction
+pub and-both : {a b : Bool} → a ≡ true → b ≡ true → a && b ≡ true
+and-both e d = cc
+
+-- a disjunction fails: its first test does
+pub or-left : (a b : Bool) → a || b ≡ false → a ≡ false
+or-left true b e = e
+or-left false b e = refl
+
+-- and its second
+pub or-right : (a b : Bool) → a || b ≡ false → b ≡ false
+or-right true b e = cc
+or-right false b e = e
+
+-- EQUALITY
+
+-- a number equals itself
+pub eqb-same : (n : ℕ) → eqb n n ≡ true
+eqb-same n = eq-eqb n n refl
+
+-- the test does not see the order
+pub eqb-sym : (m n : ℕ) → eqb m n ≡ eqb n m
+eqb-sym m n = split (eqb m n) (λ e. cc (eqb-true m n e)) (λ e. split (eqb n m) (λ d. cc (eqb-true n m d)) (λ d. cc))

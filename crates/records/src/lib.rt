@@ -1,0 +1,1 @@
+// The laws of the records stand in specs/; there is no code here.

@@ -1,0 +1,67 @@
+-- The waiting number of lowest rank.
+use mathlib.Core.Path.{_≡_}
+use mathlib.Core.Bool.{Bool, true, false}
+use mathlib.Core.Option.{Option, none, some}
+use Prim.Native.Nat.{ℕ, zero, suc, _≤_, _<_}
+use native.Mathlib.Omega.{arith}
+use native.Mathlib.Decide.{decLt}
+use lib.Dec.{ltb}
+use borrow.Author.Tests.{ltb-true, ltb-false}
+use Rattle.model.specs.Rounds.{better, lowest}
+use Rattle.solver.specs.Base.{split, clash}
+
+module _ (rank : ℕ → ℕ) (waits : ℕ → Bool) where
+  -- what it gives: none if none waits, else one that waits and whose rank is the lowest
+  pub data Lowest (n : ℕ) : Option ℕ → Type 0 where
+    no-one : ((b : ℕ) → b < n → waits b ≡ false) → Lowest n none
+    the-one : {b : ℕ} → b < n → waits b ≡ true → ((c : ℕ) → c < n → waits c ≡ true → rank b ≤ rank c) → Lowest n (some b)
+
+  below-suc : (P : ℕ → Type 0) (n : ℕ) → ((c : ℕ) → c < n → P c) → P n → (c : ℕ) → c < suc n → P c
+  below-suc P n f p c l = elim (decLt c n) [ yes m ↦ f c m | no m ↦ let e : n ≡ c = omega arith in rw e at p ]
+
+  one-more : (n : ℕ) (o : Option ℕ) → Lowest n o → waits n ≡ true → Lowest (suc n) (better rank o n)
+  unfolding better
+  one-more n _ (no-one f) w = the-one {b = n} (omega arith) w
+      (below-suc (λ c. waits c ≡ true → rank n ≤ rank c) n (λ c l v. clash (cc (f c l))) (λ v. omega arith))
+  one-more n _ (the-one {b} l v h) w = split (ltb (rank n) (rank b))
+      (λ e. let k = ltb-true (rank n) (rank b) e in rw (e, better) (the-one {b = n} (omega arith) w
+      (below-suc (λ c. waits c ≡ true → rank n ≤ rank c) n (λ c m u. omega (arith, h c m u)) (λ u. omega arith))))
+      (λ e. let k = ltb-false (rank n) (rank b) e in rw (e, better) (the-one {b = b} (omega arith) v
+      (below-suc (λ c. waits c ≡ true → rank b ≤ rank c) n h (λ u. k))))
+
+  -- it is the lowest
+  pub lowest-law : (n : ℕ) → Lowest n (lowest rank waits n)
+  unfolding lowest
+  lowest-law zero = no-one (λ b l. absurd (omega arith))
+  lowest-law (suc n) = split (waits n)
+      (λ e. rw (e, lowest) (one-more n (lowest rank waits n) (lowest-law n) e))
+      (λ e. rw (e, lowest) (go (lowest rank waits n) (lowest-law n) e))
+    where
+      go : (o : Option ℕ) → Lowest n o → waits n ≡ false → Lowest (suc n) o
+      go _ (no-one f) w = no-one (below-suc (λ c. waits c ≡ false) n f w)
+      go _ (the-one {b} l v h) w = the-one {b = b} (omega arith) v
+          (below-suc (λ c. waits c ≡ true → rank b ≤ rank c) n h (λ u. clash (cc)))
+
+  -- none: none waits
+  pub lowest-none : (n : ℕ) → lowest rank waits n ≡ none → (b : ℕ) → b < n → waits b ≡ false
+  lowest-none n e = go (lowest rank waits n) (lowest-law n) e
+    where
+      go : (o : Option ℕ) → Lowest n o → o ≡ none → (b : ℕ) → b < n → waits b ≡ false
+      go _ (no-one f) d = f
+      go _ (the-one l v h) d = clash (cc)
+
+  -- some: it waits, and is below n
+  pub lowest-some : (n b : ℕ) → lowest rank waits n ≡ some b → (b < n) × (waits b ≡ true)
+  lowest-some n b e = go (lowest rank waits n) (lowest-law n) e
+    where
+      go : (o : Option ℕ) → Lowest n o → o ≡ some b → (b < n) × (waits b ≡ true)
+      go _ (no-one f) d = clash (cc)
+      go _ (the-one {b = c} l v h) d = let q : c ≡ b = cc in rw (← q) (l, v)
+
+  -- and no other waiting one has a lower rank
+  pub lowest-rank : (n b c : ℕ) → lowest rank waits n ≡ some b → c < n → waits c ≡ true → rank b ≤ rank c
+  lowest-rank n b c e = go (lowest rank waits n) (lowest-law n) e
+    where
+      go : (o : Option ℕ) → Lowest n o → o ≡ some b → c < n → waits c ≡ true → rank b ≤ rank c
+      go _ (no-one f) d = clash (cc)
+      go _ (the-one {b = a} l v h) d = let q : a ≡ b = cc in rw (← q) (h c)
