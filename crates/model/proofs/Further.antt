@@ -1,9 +1,12 @@
--- Rows that document 01's table leaves out, in its form, as one claim.
+-- Rows that document 01's table leaves out, in its form, as one claim; and the measure of a struct with no field.
 use mathlib.Core.Path.{_≡_, refl}
-use mathlib.Core.Bool.{true}
+use mathlib.Core.Bool.{true, false}
 use mathlib.Core.List.{List, [], _∷_, map}
 use Prim.Native.Nat.{ℕ}
+use lib.Dec.{ltb}
 use Rattle.model.specs.Types.{types-ok}
+use Rattle.model.specs.Tree.{leaf, node, nil, more, joins}
+use Rattle.model.specs.Measure.{measure}
 use Rattle.model.specs.Place.{deref, field, downcast, index}
 use Rattle.model.proofs.Build.{opaque, plain, mutable, box, array, struct, enum, variant, closure, types-of}
 use Rattle.model.proofs.Rows.{F, S, T, *, V0, Shape, open-at, none, also, join-of, use-in, from-to, at-return, gives, records, refuses, fold-1, unfold-1, yes, no, Row, row, computed-row, stated-row}
@@ -52,3 +55,8 @@ types-pass = refl
 further : map (computed-row types) rows ≡ map (stated-row types) rows
 unfolding computed computed-row stated-row
 further = refl
+
+-- a struct with no field that is opened has no more nodes than before; yet the measure falls
+unit-falls : ltb (measure types (joins types false (more (leaf 6) nil) (more (node 6 0 nil) nil))) (measure types (more (leaf 6) nil)) ≡ true
+unfolding computed
+unit-falls = refl
