@@ -1,0 +1,3 @@
+-- What the contracts cite beside the definitions of model.
+pub mod Sizes
+pub mod Fresh
