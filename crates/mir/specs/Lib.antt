@@ -1,0 +1,3 @@
+-- What the contracts of mir cite beside the definitions of model.
+pub mod Sizes
+pub mod Parts

@@ -1,0 +1,3 @@
+// The function record: reading it, and refusal 2.
+pub mod check_function;
+pub mod function;
