@@ -1,0 +1,41 @@
+-- Join points by number, and the read that a block's switch matches on.
+use mathlib.Core.Bool.{true, false, cond}
+use mathlib.Core.List.{List, [], _∷_}
+use mathlib.Core.Option.{Option, none, some}
+use Prim.Native.Nat.{ℕ, suc, _-_}
+use lib.Dec.{eqb}
+use Rattle.model.specs.Words.{count-below, collect-from}
+use Rattle.model.specs.Function.{start, stop, op}
+use Rattle.model.specs.Block.{spot-before, root-before, uses-place, is-join-point, latest-note}
+use Rattle.blocks.specs.declared.matching.Item.{Item}
+use Rattle.blocks.specs.declared.matching.Item.the-variants.{At, Nowhere}
+
+-- the number of a join point's share, from 1 on, in block order; 0 for any other block
+unfoldable pub share-number : List ℕ → ℕ → ℕ
+share-number fn b = cond (is-join-point fn b) (suc (count-below (is-join-point fn) b)) 0
+
+-- the read before the note j
+unfoldable pub read-before : List ℕ → ℕ → ℕ
+read-before fn j = root-before fn j - 1
+
+-- the read whose place the block's switch matches on: `matched` of model is its place
+unfoldable pub matched-read : List ℕ → ℕ → Option ℕ
+matched-read fn b = elim (collect-from (λ i. eqb (op fn i) 8) (λ i. i) (stop fn b - start fn b) (start fn b)) [
+  | [] ↦ none
+  | s ∷ (l → m) ↦ elim (uses-place fn s) [
+    | true ↦ elim (latest-note fn (spot-before fn s) (start fn b) (s - start fn b)) [ none ↦ none | some j ↦ some (read-before fn j) ]
+    | false ↦ none
+  ]
+]
+
+-- the first switch of the block
+unfoldable pub switch-item : List ℕ → ℕ → Option ℕ
+switch-item fn b = elim (collect-from (λ i. eqb (op fn i) 8) (λ i. i) (stop fn b - start fn b) (start fn b)) [
+  | [] ↦ none
+  | s ∷ (l → m) ↦ some s
+]
+
+-- an option as the code has it
+abbrev pub item-of : Option ℕ → Item
+item-of none = Nowhere
+item-of (some i) = At i
