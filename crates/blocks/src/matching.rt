@@ -7,12 +7,12 @@ ghost use Rattle.model.specs.Function.{nblocks, nitems, op, arg};
 ghost use Rattle.model.specs.Block.{root-before, spot-before, uses-place, latest-note};
 ghost use Rattle.mir.specs.Sizes.{Laid, Formed};
 ghost use Rattle.blocks.specs.Points.{matched-read, switch-item, item-of};
+use crate::place::root_before;
+use crate::place::uses_place;
 use mir::function::arg_of;
 use mir::function::op_of;
 use mir::function::start_of;
 use mir::function::stop_of;
-use crate::place::root_before;
-use crate::place::uses_place;
 
 // An item, or none.
 pub enum Item {
