@@ -1,4 +1,4 @@
--- `mir::blocks::count_incoming` meets its contract: the target items before item i are counted. Assumes nothing.
+-- `blocks::join_points::count_incoming` meets its contract: the target items before item i are counted. Assumes nothing.
 use mathlib.Core.Path.{_≡_, refl, sym, ap, _∙_}
 use mathlib.Core.Bool.{Bool, true, false, _&&_}
 use mathlib.Core.List.{List}

@@ -1,4 +1,4 @@
--- `mir::blocks::fill_join_points` meets its contract: the blocks before b have their share's number, those from b on their count
+-- `blocks::join_points::fill_join_points` meets its contract: the blocks before b have their share's number, those from b on their count
 -- of incoming target items. Assumes nothing.
 use mathlib.Core.Path.{_≡_, refl, sym, ap, _∙_}
 use mathlib.Core.Bool.{Bool, true, false, _||_, _&&_}

@@ -1,4 +1,4 @@
--- `mir::blocks::is_join` meets its contract. Assumes nothing.
+-- `blocks::join_points::is_join` meets its contract. Assumes nothing.
 use mathlib.Core.Path.{_≡_}
 use mathlib.Core.Bool.{true, false, _||_, _&&_}
 use Prim.Native.Nat.{ℕ, _≤_, _<_}

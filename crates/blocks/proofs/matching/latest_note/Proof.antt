@@ -1,4 +1,4 @@
--- `mir::matching::latest_note` meets its contract: the latest note before s is the latest before j. Assumes nothing.
+-- `blocks::matching::latest_note` meets its contract: the latest note before s is the latest before j. Assumes nothing.
 use mathlib.Core.Path.{_≡_, refl, sym, ap, _∙_}
 use mathlib.Core.Bool.{Bool, true, false, _&&_}
 use mathlib.Core.List.{List}

@@ -1,4 +1,4 @@
--- `mir::matching::matched` meets its contract. Assumes nothing.
+-- `blocks::matching::matched` meets its contract. Assumes nothing.
 use mathlib.Core.Path.{_≡_, refl, sym, ap, _∙_}
 use mathlib.Core.Bool.{true, false}
 use mathlib.Core.List.{List}

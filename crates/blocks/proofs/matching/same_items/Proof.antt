@@ -1,4 +1,4 @@
--- `mir::matching::same_items` meets its contract: the first k items are the same. Assumes nothing.
+-- `blocks::matching::same_items` meets its contract: the first k items are the same. Assumes nothing.
 use mathlib.Core.Path.{_≡_, sym, _∙_, refl}
 use mathlib.Core.Bool.{true, false, true≢false}
 use mathlib.Core.List.{List}

@@ -1,4 +1,4 @@
--- `mir::matching::same_place` meets its contract: the places are equal just if their items are. Assumes nothing.
+-- `blocks::matching::same_place` meets its contract: the places are equal just if their items are. Assumes nothing.
 use mathlib.Core.Path.{_≡_}
 use mathlib.Core.Bool.{Bool, true, false}
 use mathlib.Core.List.{List}

@@ -1,4 +1,4 @@
--- `mir::matching::switch_of` meets its contract: the block's first switch is the first from i on. Assumes nothing.
+-- `blocks::matching::switch_of` meets its contract: the block's first switch is the first from i on. Assumes nothing.
 use mathlib.Core.Path.{_≡_, sym, ap, _∙_}
 use mathlib.Core.List.{List}
 use mathlib.Core.Option.{Option}

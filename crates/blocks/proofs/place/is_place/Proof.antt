@@ -1,4 +1,4 @@
--- `mir::place::is_place` meets its contract: the items are a place if those from j on are elements. Assumes nothing.
+-- `blocks::place::is_place` meets its contract: the items are a place if those from j on are elements. Assumes nothing.
 use mathlib.Core.Path.{_≡_, sym, _∙_}
 use mathlib.Core.Bool.{Bool, true, false, cond}
 use mathlib.Core.List.{List, [], _∷_}

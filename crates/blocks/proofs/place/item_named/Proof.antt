@@ -1,4 +1,4 @@
--- `mir::place::item_named` meets its contract. Assumes nothing.
+-- `blocks::place::item_named` meets its contract. Assumes nothing.
 use mathlib.Core.Path.{_≡_}
 use mathlib.Core.Bool.{true, false, _||_}
 use mathlib.Core.Logic.{_⊎_, inl, inr, ⊎-elim}

@@ -1,4 +1,4 @@
--- `mir::place::places_ok` meets its contract: the places before item i have passed, and root is the last root before it.
+-- `blocks::place::places_ok` meets its contract: the places before item i have passed, and root is the last root before it.
 -- Assumes nothing.
 use mathlib.Core.Path.{_≡_, refl, sym, ap, _∙_}
 use mathlib.Core.Bool.{Bool, true, false}

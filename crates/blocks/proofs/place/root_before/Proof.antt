@@ -1,4 +1,4 @@
--- `mir::place::root_before` meets its contract: the last root before i is the last before j. Assumes nothing.
+-- `blocks::place::root_before` meets its contract: the last root before i is the last before j. Assumes nothing.
 use mathlib.Core.Path.{_≡_, refl, sym, ap, _∙_}
 use mathlib.Core.List.{List}
 use Prim.Native.Nat.{ℕ, _-_, _≤_, _<_}

@@ -1,4 +1,4 @@
--- `mir::place::spot_ok` meets its contract. Assumes nothing.
+-- `blocks::place::spot_ok` meets its contract. Assumes nothing.
 use borrow.Author.Needs.{needs}
 use Rattle.blocks.proofs.place.spot_ok.Statement.{statement}
 use Rattle.blocks.proofs.place.spot_ok.Tie as tie

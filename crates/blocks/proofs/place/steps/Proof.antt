@@ -1,4 +1,4 @@
--- `mir::place::steps` meets its contract: k and the steps from item j on are the place's. Assumes nothing.
+-- `blocks::place::steps` meets its contract: k and the steps from item j on are the place's. Assumes nothing.
 use mathlib.Core.Path.{_≡_, refl, ap}
 use mathlib.Core.List.{List, _∷_}
 use mathlib.Core.Logic.{⊎-elim}

@@ -1,4 +1,4 @@
--- `mir::place::usable` meets its contract: of the elements from item j on, behind a downcast or not, the place is what they are.
+-- `blocks::place::usable` meets its contract: of the elements from item j on, behind a downcast or not, the place is what they are.
 -- Assumes nothing.
 use mathlib.Core.Path.{_≡_, refl, sym, ap, _∙_}
 use mathlib.Core.Bool.{Bool, true, false, not}

@@ -1,4 +1,4 @@
--- `mir::place::used_ok` meets its contract. Assumes nothing.
+-- `blocks::place::used_ok` meets its contract. Assumes nothing.
 use borrow.Author.Needs.{needs}
 use borrow.Author.Tests.{not-true, not-false}
 use mathlib.Core.Path.{_≡_}

@@ -1,4 +1,4 @@
--- `mir::place::uses_place` meets its contract. Assumes nothing.
+-- `blocks::place::uses_place` meets its contract. Assumes nothing.
 use mathlib.Core.Path.{_≡_}
 use mathlib.Core.Bool.{false}
 use mathlib.Core.List.{List}

@@ -1,0 +1,6 @@
+-- What the proofs of several functions use, and of the crates above.
+pub mod Copies
+pub mod Fields
+pub mod Locals
+pub mod Finding
+mod Ends

@@ -1,0 +1,190 @@
+-- The proof of the cycle of calls {fields_end, node_end}. The measure is twice what is left of the forms, and one more for `fields_end`.
+-- Each takes apart the tree that its `requires` says is there to show what its calls ask, and the tree that its `ensures` is asked of.
+-- Assumes nothing.
+use borrow.Author.Needs.{needs}
+use mathlib.Core.Path.{ap}
+use Prim.Native.Nat.{_+_, _-_, _*_}
+use native.Mathlib.Omega.{arith}
+use lib.ListN.{length}
+use Rattle.model.specs.Types.{kids}
+use Rattle.model.specs.Tree.{size, sizes}
+use Rattle.base.specs.Typed.{first-fits, owner-known, parts-inside}
+use Rattle.records.specs.Codes.{size-pos}
+use Rattle.records.specs.Coded.{coded-in-forms, coded-in-whats, coded-folded, coded-opened}
+use Rattle.records.specs.CodedParts.{coded-no-part, coded-part}
+use Rattle.state.proofs.Fields.{ready-typed, ready-sized, ready-counted, fields-open, fields-first, fields-rest}
+use Prim.Native.Nat.{ℕ, _<_}
+use borrow.Fn.Kinds.{In}
+use borrow.Fn.PlainCycle.{Measures, is, falls, and}
+use Rattle.state.proofs.nodes.fields_end.Reads as fields-end
+use Rattle.state.proofs.nodes.fields_end.Kinds as fields-end-kinds
+use Rattle.state.proofs.nodes.+fields_end+node_end.Lts-fields_end as fields-end-lts
+use Rattle.state.proofs.nodes.node_end.Reads as node-end
+use Rattle.state.proofs.nodes.node_end.Kinds as node-end-kinds
+use Rattle.state.proofs.nodes.+fields_end+node_end.Lts-node_end as node-end-lts
+use Rattle.state.proofs.nodes.wide16.Reads as wide16-reads
+use Rattle.type_record.proofs.record.count_of.Reads as count-of-reads
+use Rattle.type_record.proofs.record.first_of.Reads as first-of-reads
+use Rattle.type_record.proofs.record.owner_of.Reads as owner-of-reads
+use Rattle.type_record.proofs.record.part_at.Reads as part-at-reads
+use Rattle.state.proofs.nodes.+fields_end+node_end.{statement}
+use Rattle.state.proofs.nodes.+fields_end+node_end.Tie.{close}
+
+abbrev μ-fields-end : Measures 3 fields-end-kinds.ps ℕ
+μ-fields-end κs a = 2 * (length (a .1 .1 .0 .now) - a .1 .1 .1 .1 .0) + 1
+
+abbrev μ-node-end : Measures 3 node-end-kinds.ps ℕ
+μ-node-end κs a = 2 * (length (a .1 .1 .0 .now) - a .1 .1 .1 .1 .0)
+
+module _ (t : ℕ) where
+  abbrev fields-end-at : In 3 fields-end-kinds.ps
+  fields-end-at = and 3 fields-end-kinds.ps (is 3 fields-end-kinds.ps μ-fields-end t) fields-end.Pre
+
+  abbrev fields-end-below : In 3 fields-end-kinds.ps
+  fields-end-below = and 3 fields-end-kinds.ps (falls 3 fields-end-kinds.ps _<_ μ-fields-end t) fields-end.Pre
+
+  abbrev node-end-at : In 3 node-end-kinds.ps
+  node-end-at = and 3 node-end-kinds.ps (is 3 node-end-kinds.ps μ-node-end t) node-end.Pre
+
+  abbrev node-end-below : In 3 node-end-kinds.ps
+  node-end-below = and 3 node-end-kinds.ps (falls 3 node-end-kinds.ps _<_ μ-node-end t) node-end.Pre
+
+  abbrev fields-end-claims : fields-end-lts.Claims
+  fields-end-claims = (part-at-reads.Asked, part-at-reads.Learnt, node-end-below, node-end.Post, fields-end-below, fields-end.Post)
+
+  abbrev node-end-claims : node-end-lts.Claims
+  node-end-claims = (wide16-reads.Asked, wide16-reads.Learnt, owner-of-reads.Asked, owner-of-reads.Learnt, first-of-reads.Asked, first-of-reads.Learnt, count-of-reads.Asked, count-of-reads.Learnt, fields-end-below, fields-end.Post)
+
+  fields-end-part-at-requires : fields-end-lts.Need-part-at-requires fields-end-claims fields-end-at fields-end.Post
+  fields-end-part-at-requires c κs =
+      let p = c .before .before .before .before .before .pre .1 in
+      (ready-counted (p .0), (p .0 .offsets, (p .1 .0 .known, omega arith)))
+
+  fields-end-node-end-requires : fields-end-lts.Need-node-end-requires fields-end-claims fields-end-at fields-end.Post
+  fields-end-node-end-requires c κs =
+      let a = c .before .before .before .before .before .before .args in
+      let p = c .before .before .before .before .before .before .pre .1 in
+      let e = c .part-at .ensures in
+      let S = coded-part (a .u) (a .j) (a .n) (omega arith) (p .1 .1 .coded) in
+      (omega arith, (p .0, (rw e (fields-first (p .1 .0) (omega arith)), record { tree = S .head; coded = rw e (S .here) })))
+
+  fields-end-add-fields-end : fields-end-lts.Need-add-fields-end fields-end-claims fields-end-at fields-end.Post
+  fields-end-add-fields-end c =
+      let a = c .before .before .before .before .before .before .before .args in
+      let p = c .before .before .before .before .before .before .before .pre .1 in
+      let T = ready-typed (p .0) in
+      omega (arith, parts-inside T (a .u) (p .1 .0 .known), T .few-parts, p .1 .0 .inside)
+
+  fields-end-sub-fields-end : fields-end-lts.Need-sub-fields-end fields-end-claims fields-end-at fields-end.Post
+  fields-end-sub-fields-end c = omega arith
+
+  fields-end-fields-end-requires : fields-end-lts.Need-fields-end-requires fields-end-claims fields-end-at fields-end.Post
+  fields-end-fields-end-requires c κs =
+      let a = c .before .before .before .before .before .before .before .args in
+      let p = c .before .before .before .before .before .before .before .pre .1 in
+      let S = coded-part (a .u) (a .j) (a .n) (omega arith) (p .1 .1 .coded) in
+      let e = c .node-end .ensures (S .head) (rw (c .before .part-at .ensures) (S .here)) in
+      (omega (arith, size-pos (S .head), coded-in-forms (S .here)), (p .0, (fields-rest (p .1 .0) (omega arith), record { trees = S .tail; coded = rw e (S .rest) })))
+
+  fields-end-returns : fields-end-lts.Need-returns fields-end-claims fields-end-at fields-end.Post
+  unfolding sizes
+  fields-end-returns c =
+      let a = c .before .before .before .before .before .args in
+      λ xs h. omega (arith, ap sizes (coded-no-part (a .u) (a .j) (a .n) (c .if1 .taken) h))
+
+  fields-end-returns-2 : fields-end-lts.Need-returns-2 fields-end-claims fields-end-at fields-end.Post
+  fields-end-returns-2 c =
+      let a = c .before .before .before .before .before .before .before .before .args in
+      λ xs h.
+      let S = coded-part (a .u) (a .j) (a .n) (omega arith) h in
+      let e = c .before .node-end .ensures (S .head) (rw (c .before .before .part-at .ensures) (S .here)) in
+      omega (arith, c .fields-end .ensures (S .tail) (rw e (S .rest)), S .long)
+
+  -- the node's place is in both arrays
+  node-in : (s : node-end-lts.Start node-end-claims node-end-at node-end.Post) → (s .args .i < length (s .args .forms .now)) × (s .args .i < length (s .args .whats .now))
+  node-in s =
+      let h = s .pre .1 .1 .1 in
+      (omega (arith, coded-in-forms (h .coded), size-pos (h .tree)), omega (arith, coded-in-whats (h .coded), size-pos (h .tree)))
+
+  node-end-mul-if1 : node-end-lts.Need-mul-if1 node-end-claims node-end-at node-end.Post
+  node-end-mul-if1 c = omega (arith, node-in (c .before .before .before .before))
+
+  node-end-shared-slice-read-if1 : node-end-lts.Need-shared-slice-read-if1 node-end-claims node-end-at node-end.Post
+  node-end-shared-slice-read-if1 c = omega (arith, node-in (c .before .before .before .before .before))
+
+  node-end-add-result : node-end-lts.Need-add-result node-end-claims node-end-at node-end.Post
+  node-end-add-result c = omega (arith, node-in (c .before .before .before .before .before .before))
+
+  node-end-mul-wide16 : node-end-lts.Need-mul-wide16 node-end-claims node-end-at node-end.Post
+  node-end-mul-wide16 c = omega (arith, node-in (c .before .before .before .before .before .before))
+
+  node-end-shared-slice-read-wide16 : node-end-lts.Need-shared-slice-read-wide16 node-end-claims node-end-at node-end.Post
+  node-end-shared-slice-read-wide16 c = omega (arith, node-in (c .before .before .before .before .before .before .before))
+
+  node-end-wide16-requires : node-end-lts.Need-wide16-requires node-end-claims node-end-at node-end.Post
+  node-end-wide16-requires c κs = search needs
+
+  node-end-owner-of-requires : node-end-lts.Need-owner-of-requires node-end-claims node-end-at node-end.Post
+  node-end-owner-of-requires c κs =
+      let p = c .before .before .before .before .before .before .before .before .pre .1 in
+      let O = coded-opened (p .1 .1 .coded) (c .before .before .if1 .left) in
+      (ready-counted (p .0), (p .0 .offsets, (p .1 .0, λ e. rw (c .wide16 .ensures) (O .openable .ranged e))))
+
+  node-end-first-of-requires : node-end-lts.Need-first-of-requires node-end-claims node-end-at node-end.Post
+  node-end-first-of-requires c κs =
+      let p = c .before .before .before .before .before .before .before .before .before .pre .1 in
+      (ready-sized (p .0), p .1 .0)
+
+  node-end-count-of-requires : node-end-lts.Need-count-of-requires node-end-claims node-end-at node-end.Post
+  node-end-count-of-requires c κs =
+      let a = c .before .before .before .before .before .before .before .before .before .before .args in
+      let p = c .before .before .before .before .before .before .before .before .before .before .pre .1 in
+      let O = coded-opened (p .1 .1 .coded) (c .before .before .before .before .if1 .left) in
+      (ready-sized (p .0), rw (c .before .owner-of .ensures, c .before .before .wide16 .ensures) (owner-known (ready-typed (p .0)) (a .t) _ (p .1 .0) (O .openable)))
+
+  node-end-sub-n : node-end-lts.Need-sub-n node-end-claims node-end-at node-end.Post
+  node-end-sub-n c =
+      let a = c .before .before .before .before .before .before .before .before .before .before .before .args in
+      let p = c .before .before .before .before .before .before .before .before .before .before .before .pre .1 in
+      let O = coded-opened (p .1 .1 .coded) (c .before .before .before .before .before .if1 .left) in
+      rw (c .count-of .ensures, c .before .first-of .ensures, c .before .before .owner-of .ensures, c .before .before .before .wide16 .ensures)
+      (first-fits (ready-typed (p .0)) (a .t) _ (p .1 .0) (O .openable))
+
+  node-end-add-fields-end : node-end-lts.Need-add-fields-end node-end-claims node-end-at node-end.Post
+  node-end-add-fields-end c = omega (arith, node-in (c .before .before .before .before .before .before .before .before .before .before .before))
+
+  node-end-fields-end-requires : node-end-lts.Need-fields-end-requires node-end-claims node-end-at node-end.Post
+  unfolding kids
+  node-end-fields-end-requires c κs =
+      let p = c .before .before .before .before .before .before .before .before .before .before .before .pre .1 in
+      let O = coded-opened (p .1 .1 .coded) (c .before .before .before .before .before .if1 .left) in
+      let w = c .before .before .before .wide16 .ensures in
+      let u = c .before .before .owner-of .ensures in
+      let j = c .before .first-of .ensures in
+      let n = c .count-of .ensures in (
+        omega (arith, node-in (c .before .before .before .before .before .before .before .before .before .before .before)),
+        (p .0, (rw (n, j, u, w) (fields-open (ready-typed (p .0)) (p .1 .0) (O .openable)), record { trees = O .children; coded = rw (n, j, u, w) (O .below) })),
+      )
+
+  node-end-returns : node-end-lts.Need-returns node-end-claims node-end-at node-end.Post
+  unfolding size
+  node-end-returns c =
+      let p = c .before .before .before .before .before .before .pre .1 in
+      λ x h. omega (arith, ap size (coded-folded (ready-typed (p .0) .known) h (c .if1 .taken)))
+
+  node-end-returns-2 : node-end-lts.Need-returns-2 node-end-claims node-end-at node-end.Post
+  unfolding kids
+  node-end-returns-2 c =
+      let w = c .before .before .before .before .wide16 .ensures in
+      let u = c .before .before .before .owner-of .ensures in
+      let j = c .before .before .first-of .ensures in
+      let n = c .before .count-of .ensures in
+      λ x h.
+      let O = coded-opened h (c .before .before .before .before .before .before .if1 .left) in
+      omega (arith, c .fields-end .ensures (O .children) (rw (n, j, u, w) (O .below)), O .long)
+
+pub +fields-end+node-end-spec : {M : Type 1} → statement M
++fields-end+node-end-spec =
+    close μ-fields-end μ-node-end
+    (λ t. fields-end-lts.spec (fields-end-claims t) (fields-end-at t) fields-end.Post (fields-end-part-at-requires t) (fields-end-node-end-requires t) (fields-end-add-fields-end t) (fields-end-sub-fields-end t) (fields-end-fields-end-requires t) (fields-end-returns t) (fields-end-returns-2 t))
+    (λ t. node-end-lts.spec (node-end-claims t) (node-end-at t) node-end.Post (node-end-mul-if1 t) (node-end-shared-slice-read-if1 t) (node-end-add-result t) (node-end-mul-wide16 t) (node-end-shared-slice-read-wide16 t) (node-end-wide16-requires t) (node-end-owner-of-requires t) (node-end-first-of-requires t) (node-end-count-of-requires t) (node-end-sub-n t) (node-end-add-fields-end t) (node-end-fields-end-requires t) (node-end-returns t) (node-end-returns-2 t))

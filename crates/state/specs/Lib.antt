@@ -1,0 +1,4 @@
+-- What the contracts of state cite beside the definitions of model and the windows of records.
+pub mod Value
+pub mod Found
+pub mod Spliced

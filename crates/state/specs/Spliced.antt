@@ -1,0 +1,19 @@
+-- Arrays of 512 made anew.
+use mathlib.Core.Path.{_≡_}
+use mathlib.Core.List.{List, _++_}
+use Prim.Native.Nat.{ℕ, _+_, _-_}
+use lib.ListN.{take, drop, replicate}
+use Rattle.state.specs.declared.nodes.State.{State}
+
+-- the first n words, then zeros
+unfoldable pub fronted : List ℕ → ℕ → List ℕ
+fronted a n = take n a ++ replicate (512 - n) 0
+
+-- of the first n words those before i, then `gap` zeros, then those from j on, then zeros
+unfoldable pub splice : List ℕ → ℕ → ℕ → ℕ → ℕ → List ℕ
+splice a i gap j n = take i a ++ (replicate gap 0 ++ (take (n - j) (drop j a) ++ replicate (512 - (i + gap + (n - j))) 0))
+
+pub record Replaced (s : State) (i j gap : ℕ) (r : State) : Type 0 where
+  pub forms : r .forms ≡ splice (s .forms) i gap j (s .nodes)
+  pub whats : r .whats ≡ splice (s .whats) i gap j (s .nodes)
+  pub nodes : r .nodes ≡ i + gap + (s .nodes - j)
