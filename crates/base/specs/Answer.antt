@@ -7,8 +7,13 @@ use mathlib.Core.Bool.{Bool, true, false, cond}
 use mathlib.Core.List.{List, [], _∷_, _++_, map}
 use mathlib.Core.Option.{Option, none, some}
 use Prim.Native.Nat.{ℕ}
-use native.Mathlib.Omega.{arith}
 use Rattle.model.specs.Answer.{run, refused, _>>=_, done, Answer, require}
+use Rattle.base.specs.Tests.{clash}
+
+-- by cases on an answer: `split-answer (walk Γ act p s) (λ r e. ..) (λ u e. ..)`, with e in reach of `cc`
+pub split-answer : {A P : Type 0} (a : Answer A) → ((r : ℕ) → a ≡ refused r → P) → ((x : A) → a ≡ done x → P) → P
+split-answer (refused r) f g = f r refl
+split-answer (done x) f g = g x refl
 
 -- P of the value, if there is one
 pub data Good {A : Type 0} (P : A → Type 0) : Answer A → Type 0 where
@@ -79,6 +84,11 @@ accept-bind (accepted {a}) h = h a
 pub accepted-value : {A : Type 0} {a : Answer A} → Accepted a → (x : A) × (a ≡ done x)
 accepted-value (accepted {a}) = (a, refl)
 
+-- a step is accepted: so were both its parts
+pub then-done : {A B : Type 0} (a : Answer A) {f : A → Answer B} {b : B} → a >>= f ≡ done b → (x : A) × (a ≡ done x) × (f x ≡ done b)
+then-done (refused r) e = clash (cc)
+then-done (done x) e = (x, refl, e)
+
 -- WHAT IS REFUSED
 
 -- the number of the refusal, if it is one
@@ -110,8 +120,8 @@ refusal-refused (done x) n = (λ e. cc, λ e. cc)
 -- and accepted exactly if it has none
 pub refusal-accepted : {A : Type 0} (a : Answer A) → Accepted a ↔ (refusal a ≡ none)
 refusal-accepted (refused m) = (
-  λ e. absurd (let z : _≡_ {A = ℕ} 0 1 = cc (accepted-value e .1) in omega arith),
-  λ e. absurd (let z : _≡_ {A = ℕ} 0 1 = cc in omega arith),
+  λ e. clash (cc (accepted-value e .1)),
+  λ e. clash (cc),
 )
 refusal-accepted (done x) = (λ e. refl, λ e. accepted)
 

@@ -1,15 +1,16 @@
 -- Tests, sums and counts over the numbers below n: `all`, `sum`, `count-below`. Nothing of any record or tree.
 use mathlib.Core.Path.{_≡_, refl, sym, ap, ap₂, _∙_, subst}
-use mathlib.Core.Logic.{⊎-elim}
+use mathlib.Core.Logic.{_≢_, ⊎-elim}
 use mathlib.Core.Bool.{Bool, true, false, cond, true≢false}
 use Prim.Native.Nat.{ℕ, zero, suc, _+_, _≤_, _<_}
 use native.Mathlib.Nat.{le-refl, le-of-suc-le-suc, eq-or-lt-of-le, not-suc-le-zero, add-suc, add-zero, add-assoc}
 use native.Mathlib.Omega.{arith}
+use native.Mathlib.Decide.{decLt}
 use Rattle.model.specs.Words.{all, sum, count-below}
 use Rattle.base.specs.Tests.{split, and-left, and-right}
 
 -- a number below n + 1 is n or below n
-below-suc : {P : Type 0} {i n : ℕ} → i < suc n → (i ≡ n → P) → (i < n → P) → P
+pub below-suc : {P : Type 0} {i n : ℕ} → i < suc n → (i ≡ n → P) → (i < n → P) → P
 below-suc h f g = ⊎-elim f g (eq-or-lt-of-le (le-of-suc-le-suc h))
 
 -- ALL
@@ -81,6 +82,21 @@ unfolding sum
 sum-grows f g zero h = omega arith
 sum-grows f g (suc n) h = omega (arith, sum-grows f g n (λ i l. h i (omega arith)), h n (omega arith))
 
+-- and a sum falls where one summand does and no other rises
+pub sum-falls : (f g : ℕ → ℕ) (n b : ℕ) → b < n → f b < g b → ((i : ℕ) → i < n → f i ≤ g i) → sum f n < sum g n
+unfolding sum
+sum-falls f g zero b l d h = absurd (omega arith)
+sum-falls f g (suc n) b l d h =
+    below-suc l
+    (λ e. let k : f n < g n = rw e at d in omega (arith, sum-grows f g n (λ i m. h i (omega arith)), k))
+    (λ m. omega (arith, sum-falls f g n b m d (λ i k. h i (omega arith)), h n (omega arith)))
+
+-- ones add up to their number
+pub sum-ones : (n : ℕ) → sum (λ i. 1) n ≡ n
+unfolding sum
+sum-ones zero = refl
+sum-ones (suc n) = omega (arith, sum-ones n)
+
 -- equal summands have one sum
 pub sum-same : (f g : ℕ → ℕ) (n : ℕ) → ((i : ℕ) → i < n → f i ≡ g i) → sum f n ≡ sum g n
 unfolding sum
@@ -119,6 +135,13 @@ module _ (p : ℕ → Bool) where
   -- one that passes is counted behind those below it
   pub count-room : (i n : ℕ) → i < n → p i ≡ true → count-below p i < count-below p n
   count-room i n h e = omega (arith, count-pass i e, count-longer (suc i) n h)
+
+  -- two that pass count twice
+  pub count-two : (i j n : ℕ) → i < n → j < n → i ≢ j → p i ≡ true → p j ≡ true → 2 ≤ count-below p n
+  count-two i j n l m d e f = elim (decLt i j) [
+    | yes k ↦ omega (arith, count-room i j k e, count-room j n m f)
+    | no k ↦ omega (arith, count-room j i (omega arith) f, count-room i n l e)
+  ]
 
   -- none passes
   pub count-none : (n : ℕ) → ((i : ℕ) → i < n → p i ≡ false) → count-below p n ≡ 0

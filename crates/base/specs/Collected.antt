@@ -10,6 +10,7 @@ use native.Mathlib.Omega.{arith}
 use lib.ListN.{length, length-append}
 use Rattle.model.specs.Words.{collect-from, count-below}
 use Rattle.base.specs.Tests.{split}
+use Rattle.base.specs.Each.{Each, each-none, each-more}
 use Rattle.base.specs.Below.{count-pass, count-fail, count-zero}
 
 -- a, if the test passed
@@ -90,6 +91,14 @@ module _ {A : Type 0} (p : ℕ → Bool) (f : ℕ → A) where
       (λ d. rw (collect-pass n i (ap p d ∙ e)) (List·Memᴰ·head (ap f (sym d))))
       (λ k. rw (collect-front n i) (Memᴰ·append-right (passed (p i) (f i)) (mem-collect n (suc i) j k (omega arith) e)))
       (eq-or-lt-of-le h)
+
+  -- what holds of all that the numbers in the range give that pass holds of each element
+  pub collect-each : {Q : A → Type 0} (n i : ℕ) → ((j : ℕ) → i ≤ j → j < i + n → p j ≡ true → Q (f j)) → Each Q (collect-from p f n i)
+  unfolding collect-from
+  collect-each zero i h = each-none
+  collect-each (suc n) i h =
+      let k = collect-each n (suc i) (λ j l m e. h j (omega arith) (omega arith) e) in
+      split (p i) (λ e. rw (e, collect-from) (each-more (h i (omega arith) (omega arith) e) k)) (λ e. rw (e, collect-from) k)
 
   -- none passes: nothing is collected
   pub collect-none : (n i : ℕ) → ((j : ℕ) → i ≤ j → j < i + n → p j ≡ false) → collect-from p f n i ≡ []

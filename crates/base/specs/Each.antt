@@ -25,6 +25,16 @@ pub each-append : {A : Type 0} {P : A → Type 0} {l r : List A} → Each P l �
 each-append each-none q = q
 each-append (each-more p ps) q = each-more p (each-append ps q)
 
+-- and of the first of two in a row
+pub each-front : {A : Type 0} {P : A → Type 0} (l r : List A) → Each P (l ++ r) → Each P l
+each-front [] r h = each-none
+each-front (a ∷ l) r (each-more p ps) = each-more p (each-front l r ps)
+
+-- two facts at once
+pub each-both : {A : Type 0} {P Q : A → Type 0} {l : List A} → Each P l → Each Q l → Each (λ a. P a × Q a) l
+each-both each-none each-none = each-none
+each-both (each-more p ps) (each-more q qs) = each-more (p, q) (each-both ps qs)
+
 -- each element of a list, as f gives it
 pub each-map : {A B : Type 0} {P : A → Type 0} {Q : B → Type 0} (f : A → B) → ((a : A) → P a → Q (f a)) → {l : List A} → Each P l
     → Each Q (map f l)

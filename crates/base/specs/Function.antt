@@ -11,14 +11,13 @@ use lib.ListN.{length, drop, length-drop}
 use lib.Seq.{length-take-le, getD-take, getD-drop}
 use borrow.Author.Tests.{ltb-true, ltb-false, lt-ltb, le-ltb, leb-true, eqb-true, eqb-false, not-true}
 use Rattle.model.specs.Words.{word, all}
-use Rattle.model.specs.State.{locals-ok}
 use Rattle.model.specs.Function.{nlocals, nargs, nblocks, nitems, local-types, start, rank, op, arg, stop, may-follow, after, arg-ok, function-sizes, starts-ok, ranks-ok, items-from, items-ok, function-ok}
 use Rattle.base.specs.Tests.{split, and-left, and-right}
 use Rattle.base.specs.Below.{all-at}
 use Rattle.base.specs.Typed.{TypedLocals, locals-typed}
 
 -- what the words of a function record say
-pub record FunctionFacts (Γ fn : List ℕ) : Type 0 where
+pub record FunctionFacts (fn : List ℕ) : Type 0 where
   pub some-locals : 1 ≤ nlocals fn
   pub few-locals : nlocals fn ≤ 256
   pub few-args : nargs fn < nlocals fn
@@ -26,13 +25,13 @@ pub record FunctionFacts (Γ fn : List ℕ) : Type 0 where
   pub few-blocks : nblocks fn ≤ 256
   pub few-items : nitems fn ≤ 16384
   pub long : length fn ≡ 4 + nlocals fn + nblocks fn + nblocks fn + nitems fn + nitems fn
-  pub locals : TypedLocals Γ (local-types fn)
   pub starts : (b : ℕ) → b < nblocks fn → start fn b < stop fn b
   pub starts-inside : (b : ℕ) → b < nblocks fn → start fn b < nitems fn
   pub ranks : (b : ℕ) → b < nblocks fn → rank fn b < nblocks fn
   pub ranks-differ : (b c : ℕ) → c < b → b < nblocks fn → rank fn c ≢ rank fn b
   pub ops : (i : ℕ) → i < nitems fn → op fn i ≤ 12
   pub args : (i : ℕ) → i < nitems fn → arg-ok fn i ≡ true
+  pub items : items-ok fn ≡ true
 
 -- an item may stand somewhere, and its arg passes
 record Item (fn : List ℕ) (i : ℕ) : Type 0 where
@@ -112,23 +111,16 @@ module _ (fn : List ℕ) where
         eqb-true (length fn) _ (and-right (a && b && c && d && f && g) h e),
       )
 
--- what a record that passes says
-pub function-facts : (Γ fn : List ℕ) → function-ok Γ fn ≡ true → FunctionFacts Γ fn
-unfolding function-ok starts-ok ranks-ok items-ok
-function-facts Γ fn e =
-    let a : Bool = function-sizes fn in
-    let b : Bool = locals-ok Γ (local-types fn) in
-    let c : Bool = starts-ok fn in
-    let d : Bool = ranks-ok fn in
-    let e4 : a && b && c && d ≡ true = and-left (a && b && c && d) (items-ok fn) e in
-    let e3 : a && b && c ≡ true = and-left (a && b && c) d e4 in
-    let e2 : a && b ≡ true = and-left (a && b) c e3 in
-    let z = sized fn (and-left a b e2) in
-    let starting : (x : ℕ) → x < nblocks fn → ltb (start fn x) (stop fn x) && ltb (start fn x) (nitems fn) ≡ true =
-    all-at (λ x. ltb (start fn x) (stop fn x) && ltb (start fn x) (nitems fn)) (nblocks fn) (and-right (a && b) c e3) in
-    let ranking : (x : ℕ) → x < nblocks fn → ltb (rank fn x) (nblocks fn) && all (λ y. not (eqb (rank fn y) (rank fn x))) x ≡ true =
-    all-at (λ x. ltb (rank fn x) (nblocks fn) && all (λ y. not (eqb (rank fn y) (rank fn x))) x) (nblocks fn) (and-right (a && b && c) d e4) in
-    let item : (i : ℕ) → i < nitems fn → Item fn i = λ i l. item-at fn (nitems fn) 0 0 0 (and-right (a && b && c && d) (items-ok fn) e) i (omega arith) (omega arith) in
+-- what a record says that passes all tests but the one of its local types
+pub facts-of : (fn : List ℕ) → function-sizes fn ≡ true → starts-ok fn ≡ true → ranks-ok fn ≡ true → items-ok fn ≡ true → FunctionFacts fn
+unfolding starts-ok ranks-ok items-ok
+facts-of fn sizing starting ranking going =
+    let z = sized fn sizing in
+    let s : (x : ℕ) → x < nblocks fn → ltb (start fn x) (stop fn x) && ltb (start fn x) (nitems fn) ≡ true =
+    all-at (λ x. ltb (start fn x) (stop fn x) && ltb (start fn x) (nitems fn)) (nblocks fn) starting in
+    let r : (x : ℕ) → x < nblocks fn → ltb (rank fn x) (nblocks fn) && all (λ y. not (eqb (rank fn y) (rank fn x))) x ≡ true =
+    all-at (λ x. ltb (rank fn x) (nblocks fn) && all (λ y. not (eqb (rank fn y) (rank fn x))) x) (nblocks fn) ranking in
+    let item : (i : ℕ) → i < nitems fn → Item fn i = λ i l. item-at fn (nitems fn) 0 0 0 going i (omega arith) (omega arith) in
     record {
       some-locals = z .0;
       few-locals = z .1;
@@ -137,17 +129,28 @@ function-facts Γ fn e =
       few-blocks = z .4;
       few-items = z .5;
       long = z .6;
-      locals = locals-typed Γ (local-types fn) (and-right a b e2);
-      starts = λ x l. ltb-true (start fn x) (stop fn x) (and-left _ (ltb (start fn x) (nitems fn)) (starting x l));
-      starts-inside = λ x l. ltb-true (start fn x) (nitems fn) (and-right (ltb (start fn x) (stop fn x)) _ (starting x l));
-      ranks = λ x l. ltb-true (rank fn x) (nblocks fn) (and-left _ (all (λ y. not (eqb (rank fn y) (rank fn x))) x) (ranking x l));
+      starts = λ x l. ltb-true (start fn x) (stop fn x) (and-left _ (ltb (start fn x) (nitems fn)) (s x l));
+      starts-inside = λ x l. ltb-true (start fn x) (nitems fn) (and-right (ltb (start fn x) (stop fn x)) _ (s x l));
+      ranks = λ x l. ltb-true (rank fn x) (nblocks fn) (and-left _ (all (λ y. not (eqb (rank fn y) (rank fn x))) x) (r x l));
       ranks-differ = λ x y h l. eqb-false (rank fn y) (rank fn x)
-          (not-true _ (all-at (λ k. not (eqb (rank fn k) (rank fn x))) x (and-right (ltb (rank fn x) (nblocks fn)) _ (ranking x l)) y h));
+          (not-true _ (all-at (λ k. not (eqb (rank fn k) (rank fn x))) x (and-right (ltb (rank fn x) (nblocks fn)) _ (r x l)) y h));
       ops = λ i l. item i l .op-few;
       args = λ i l. item i l .arg-good;
+      items = going;
     }
 
-module _ {Γ fn : List ℕ} (h : FunctionFacts Γ fn) where
+module _ (Γ fn : List ℕ) (e : function-ok Γ fn ≡ true) where
+  -- what a record that passes says
+  pub function-facts : FunctionFacts fn
+  unfolding function-ok
+  function-facts = facts-of fn (search (and-left, and-right)) (search (and-left, and-right)) (search (and-left, and-right)) (search (and-left, and-right))
+
+  -- and of its local types
+  pub function-locals : TypedLocals Γ (local-types fn)
+  unfolding function-ok
+  function-locals = locals-typed Γ (local-types fn) (search (and-left, and-right))
+
+module _ {fn : List ℕ} (h : FunctionFacts fn) where
   -- a local's type lies inside the record
   pub local-inside : (l : ℕ) → l < nlocals fn → 4 + l < length fn
   local-inside l p = omega arith

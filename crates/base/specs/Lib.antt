@@ -1,8 +1,8 @@
--- What the theorems about trees (crate laws) and those about records (crate records) both stand on. In the order in which a reader
--- should meet it:
+-- What the theorems about trees (crate laws), records (crate records), the passes (crate solver) and a function's graph (crate graph)
+-- stand on. In the order in which a reader should meet it:
 -- case splits, tests as equations
 pub mod Tests
--- laws of answers: `Good`, what is accepted; `Accepted`; what is refused
+-- laws of answers: cases, `Good`, what is accepted; `Accepted`; what is refused
 pub mod Answer
 -- a fact of each element of a list: `Each`
 pub mod Each
@@ -10,11 +10,13 @@ pub mod Each
 pub mod Below
 -- the numbers that are collected because they pass
 pub mod Collected
+-- the order of a join: `Semilattice`, `Above`
+pub mod Order
 -- the kinds of types as tests, and by cases
 pub mod Kinds
 -- the parts of a type, and the children of an open node
 pub mod Parts
 -- what a type record that passes refusal 1 says: `types-typed`; and local types that pass: `locals-typed`
 pub mod Typed
--- what a function record that passes refusal 2 says: `function-facts`
+-- what a function record that passes refusal 2 says: `function-facts`, `function-locals`
 pub mod Function

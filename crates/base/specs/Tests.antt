@@ -1,10 +1,11 @@
 -- Case splits that keep the equation, and what a conjunction or a disjunction says. Nothing of any record or tree. What the tests
 -- eqb, ltb, leb and not say is in `borrow.Author.Tests`.
-use mathlib.Core.Path.{_≡_, refl, sym, _∙_}
+use mathlib.Core.Path.{_≡_, refl}
 use mathlib.Core.Logic.{_↔_}
-use mathlib.Core.Bool.{Bool, true, false, cond, _&&_, _||_, true≢false}
+use mathlib.Core.Bool.{Bool, true, false, cond, _&&_, _||_}
 use mathlib.Core.Option.{Option, none, some}
 use Prim.Native.Nat.{ℕ}
+use native.Mathlib.Omega.{arith}
 use lib.Dec.{eqb}
 use borrow.Author.Tests.{eqb-true, eq-eqb}
 
@@ -26,13 +27,13 @@ pub cond-split : {A : Type 0} {x y : A} (P : A → Type 0) (b : Bool) → (b ≡
 cond-split P true f g = f refl
 cond-split P false f g = g refl
 
--- no test passes and fails
-pub clash : {b : Bool} → b ≡ true → b ≡ false → ⊥
-clash e d = true≢false (sym e ∙ d)
+-- where two facts clash, as that a test passes and fails: `clash (cc)`
+pub clash : {P : Type 0} → _≡_ {A = ℕ} 0 1 → P
+clash p = absurd (omega arith)
 
 -- what fails exactly if P holds passes exactly if not
 pub passes-exactly : {P : Type 0} (b : Bool) → (b ≡ false) ↔ P → (b ≡ true) ↔ ¬ P
-passes-exactly b h = (λ e p. clash e (h .1 p), λ n. split b (λ e. e) (λ e. absurd (n (h .0 e))))
+passes-exactly b h = (λ e p. clash (cc (h .1 p)), λ n. split b (λ e. e) (λ e. absurd (n (h .0 e))))
 
 -- CONNECTIVES
 
@@ -49,6 +50,11 @@ and-right false b e = cc
 -- both pass: so does the conjunction
 pub and-both : {a b : Bool} → a ≡ true → b ≡ true → a && b ≡ true
 and-both e d = cc
+
+-- the second of two tests passes: so does the disjunction
+pub or-passes : (a b : Bool) → b ≡ true → a || b ≡ true
+or-passes true b e = refl
+or-passes false b e = e
 
 -- a disjunction fails: its first test does
 pub or-left : (a b : Bool) → a || b ≡ false → a ≡ false

@@ -121,26 +121,32 @@ module _ (Γ : List ℕ) (t : ℕ) where
 
   -- what a type that passes has passed, by its kind
   module _ (e : type-ok Γ t ≡ true) where
+    -- an opaque type has no part
     by-opaque : kind Γ t ≡ 0 → count Γ t ≡ 0
     unfolding type-ok
     by-opaque k = eqb-true (count Γ t) 0 (cc)
 
+    -- nor has an array
     by-array : kind Γ t ≡ 4 → count Γ t ≡ 0
     unfolding type-ok
     by-array k = eqb-true (count Γ t) 0 (cc)
 
+    -- a pointer's pointee passes
     by-pointer : pointer (kind Γ t) ≡ true → pointee-ok Γ t ≡ true
     unfolding type-ok pointer
     by-pointer k = pointer-cases (kind Γ t) k (λ h. cc) (λ h. cc) (λ h. cc)
 
+    -- a struct's fields pass
     by-fields : fielded (kind Γ t) ≡ true → fields-ok Γ t 0 ≡ true
     unfolding type-ok pointer fielded
     by-fields k = fielded-cases (kind Γ t) k (λ h. cc) (λ h. cc) (λ h. cc) (λ h. cc)
 
+    -- an enum's variants pass
     by-variants : kind Γ t ≡ 7 → variants-ok Γ t ≡ true
     unfolding type-ok pointer fielded
     by-variants k = cc
 
+    -- a variant has a discriminant, and its fields pass
     by-variant : kind Γ t ≡ 8 → leb 1 (count Γ t) && fields-ok Γ t 1 ≡ true
     unfolding type-ok pointer fielded
     by-variant k = cc

@@ -12,7 +12,7 @@ use Rattle.model.specs.Function.{nblocks, start, stop, op}
 use Rattle.model.specs.Block.{root-before, spot-before, uses-place, latest-note, place-read, match-at, matched}
 use Rattle.base.specs.Tests.{split, split-option}
 use Rattle.base.specs.Collected.{collect-mem}
-use Rattle.graph.specs.Ranges.{Holds, start-stop}
+use Rattle.graph.specs.Ranges.{Holds}
 use Rattle.graph.specs.Places.{Placed, action-uses, note-reads}
 use Rattle.graph.specs.Used.{latest-noted}
 use Rattle.mir.specs.Sizes.{Formed}
@@ -100,7 +100,7 @@ module _ {fn : List ℕ} (F : Formed fn) {b : ℕ} (l : b < nblocks fn) where
   switch-holds {s} e =
       let m = collect-mem (λ i. eqb (op fn i) 8) (λ i. i) (stop fn b - start fn b) (start fn b) (first-in (switches fn b) e) in
       let z = m .is in
-      (record { block = l; low = omega (arith, m .low); high = omega (arith, m .high, start-stop (formed-accepted F) l) }, rw z (eqb-true (op fn (m .number)) 8 (m .pass)))
+      (record { block = l; low = omega (arith, m .low); high = omega (arith, m .high, (formed-accepted F) .starts b l) }, rw z (eqb-true (op fn (m .number)) 8 (m .pass)))
 
   -- so does the latest note of its place, with the read before it
   pub note-holds : {s j : ℕ} → Holds fn b s → latest-note fn (spot-before fn s) (start fn b) (s - start fn b) ≡ some j → Holds fn b j × (op fn j ≡ 7)

@@ -12,36 +12,35 @@ use borrow.Author.Tests.{le-leb, lt-ltb, ltb-true, eq-eqb, ne-eqb}
 use lib.Dec.{eqb}
 use lib.ListN.{length, getD, drop, length-drop}
 use lib.Seq.{drop-cons, getD-drop, getD-take, length-take-le}
-use Rattle.model.specs.Function.{nlocals, nargs, nblocks, nitems, start, op, arg, arg-ok, function-sizes}
+use Rattle.model.specs.Function.{nlocals, nargs, nblocks, nitems, start, stop, op, arg, arg-ok, function-sizes}
 use Rattle.model.specs.Block.{root-before, elems, spot-before, uses-place}
 use Rattle.model.specs.Calls.{elems-of, spot-of}
 use Rattle.base.specs.Tests.{split}
+use Rattle.base.specs.Function.{FunctionFacts, facts-of, stop-inside}
 use Rattle.records.specs.Spots.{item-ok}
-use Rattle.graph.specs.Ranges.{Accepted, item-holds}
-use Rattle.graph.specs.Items.{item-arg}
+use Rattle.graph.specs.Ranges.{item-holds}
 use Rattle.graph.specs.Places.{Placed, place-placed, action-uses, entry-op}
 use Rattle.mir.specs.Sizes.{Laid, Formed}
 use Rattle.mir.specs.Parts.{ops-start, ops-part, args-part, Spotted}
 
 -- the laws of crate graph hold
-pub formed-accepted : {fn : List ℕ} → Formed fn → Accepted fn
+pub formed-accepted : {fn : List ℕ} → Formed fn → FunctionFacts fn
 unfolding function-sizes
 formed-accepted {fn} F =
     let L = F .laid in
-    record {
-      sizes = cc (
-        le-leb 1 (nlocals fn) (L .some-locals),
-        le-leb (nlocals fn) 256 (L .most-locals),
-        lt-ltb (nargs fn) (nlocals fn) (L .few-args),
-        le-leb 1 (nblocks fn) (L .some-blocks),
-        le-leb (nblocks fn) 256 (L .most-blocks),
-        le-leb (nitems fn) 16384 (L .most-items),
-        eq-eqb (length fn) (4 + nlocals fn + nblocks fn + nblocks fn + nitems fn + nitems fn) (L .whole),
-      );
-      starts = F .starts;
-      ranks = F .ranks;
-      items = F .items;
-    }
+    facts-of fn (cc (
+    le-leb 1 (nlocals fn) (L .some-locals),
+    le-leb (nlocals fn) 256 (L .most-locals),
+    lt-ltb (nargs fn) (nlocals fn) (L .few-args),
+    le-leb 1 (nblocks fn) (L .some-blocks),
+    le-leb (nblocks fn) 256 (L .most-blocks),
+    le-leb (nitems fn) 16384 (L .most-items),
+    eq-eqb (length fn) (4 + nlocals fn + nblocks fn + nblocks fn + nitems fn + nitems fn) (L .whole),
+  )) (F .starts) (F .ranks) (F .items)
+
+-- no block ends past the items
+pub block-stop : {fn : List ℕ} → Formed fn → {b : ℕ} → b < nblocks fn → stop fn b ≤ nitems fn
+block-stop F {b} l = stop-inside (formed-accepted F) b
 
 -- ROOTS
 
@@ -127,7 +126,7 @@ element-ok fn x l m e =
     rw (le-leb 1 o l, le-leb o 4 m) h
 
 module _ {fn : List ℕ} (F : Formed fn) where
-  abbrev A : Accepted fn
+  abbrev A : FunctionFacts fn
   A = formed-accepted F
 
   -- items 1 to 4 are read as the elements
@@ -138,7 +137,7 @@ module _ {fn : List ℕ} (F : Formed fn) where
   elems-read (suc n) i j z m h =
       let (u, v) = h i (omega arith) (omega arith) in
       rw (ops-cons (F .laid) i j (omega arith) m, args-cons (F .laid) i j (omega arith) m)
-      (cc (element-ok fn i u v (item-arg A i (omega arith)), elems-read n (suc i) j (omega arith) m (λ x y w. h x (omega arith) w)))
+      (cc (element-ok fn i u v (A .args i (omega arith)), elems-read n (suc i) j (omega arith) m (λ x y w. h x (omega arith) w)))
 
   -- a used place stands in the record
   pub used-in : {i : ℕ} → i < nitems fn → uses-place fn i ≡ true → Placed fn 0 i
@@ -172,4 +171,4 @@ module _ {fn : List ℕ} (F : Formed fn) where
   -- a target item names a block
   pub target-block : {i : ℕ} → i < nitems fn → op fn i ≡ 10 → arg fn i < nblocks fn
   unfolding arg-ok
-  target-block {i} l e = ltb-true (arg fn i) (nblocks fn) (rw (eq-eqb (op fn i) 10 e) at (item-arg A i l))
+  target-block {i} l e = ltb-true (arg fn i) (nblocks fn) (rw (eq-eqb (op fn i) 10 e) at (A .args i l))

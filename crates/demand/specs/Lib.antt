@@ -1,9 +1,12 @@
--- The theorems on a whole function that passes refusals 1, 2 and 4. In the order in which a reader should meet them:
--- its states, and what the laws of trees give of them
+-- The theorems about the two passes (numbered as in the crate solver), of a whole function that passes refusals 1, 2 and 4. In the order in
+-- which a reader should meet them, each theorem above the file that has it:
+
+-- a function's states, and that the laws of trees give all that is asked: frame-lattice, frame-collects, frame-trees
 pub mod States
--- both passes; what is stored; the ceiling: changes-most
+-- 2.-4. after an accepted first pass the second is accepted (second-accepted); what is stored is a state record's (kept-stored);
+-- 6. THE CEILING: a stored state changes at most 262,656 times: changes-most; 5. demand 3 of an accepted call: whole-demand
 pub mod Whole
--- the numbers with which the passes refuse: passes-refuse
+-- the numbers with which the passes refuse, 5, 6, 8 and 9: passes-refuse
 pub mod Refused
--- DEMAND 3: demand-3
+-- 5. DEMAND 3: demand-3, of model's statement
 pub mod Demand

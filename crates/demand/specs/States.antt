@@ -4,30 +4,26 @@ use mathlib.Core.Bool.{true, false}
 use mathlib.Core.List.{List}
 use Prim.Native.Nat.{ℕ, _≤_}
 use native.Mathlib.Omega.{arith}
-use lib.ListN.{length, length-take}
 use borrow.Author.Tests.{leb-true}
 use Rattle.model.specs.Types.{types-ok}
 use Rattle.model.specs.Tree.{Forest, joins, leaves, sizes}
 use Rattle.model.specs.Typing.{depths, Fits}
 use Rattle.model.specs.State.{most, levels}
-use Rattle.model.specs.Place.{Spot, usable, steps, spot-ok, used-ok}
-use Rattle.model.specs.Function.{nlocals, nargs, local-types, function-sizes}
+use Rattle.model.specs.Function.{nlocals, nargs, local-types}
 use Rattle.model.specs.Body.{frame}
 use Rattle.base.specs.Answer.{good-at}
-use Rattle.laws.specs.Typing.{fits-leaves, fits-join}
-use Rattle.laws.specs.Join.{joins-self, joins-comm, joins-assoc}
+use Rattle.base.specs.Function.{FunctionFacts, length-local-types}
+use Rattle.laws.specs.Order.{states}
 use Rattle.laws.specs.Flags.{flags1-law, flags1-changed}
-use Rattle.laws.specs.Sizes.{sizes-leaves}
 use Rattle.laws.specs.Measure.{measure-bound, measure-falls}
-use Rattle.laws.specs.Depth.{depths-leaves, joins-depths}
+use Rattle.laws.specs.Places.{used-limits}
 use Rattle.laws.specs.Sound.{types-sound}
-use Rattle.laws.specs.Projection.{projection-carry, projection-quiet, projection-fits, projection-small, cast-fits, downcasting-cast}
-use Rattle.laws.specs.Levels.{projection-levels, cast-at-levels}
-use Rattle.laws.specs.Returned.{returned-at, folds-at-ret-carry}
+use Rattle.laws.specs.Projection.{projection-carry, projection-quiet, downcasting-cast}
+use Rattle.laws.specs.Depth.{joins-depths}
+use Rattle.laws.specs.Valid.{Valid, leaves-valid, projection-valid, downcasting-valid}
 use Rattle.laws.specs.Carried.{goto-above}
+use Rattle.laws.specs.Returned.{returned-at, folds-at-ret-carry}
 use Rattle.solver.specs.Laws.{Good, Lattice, Collects}
-use Rattle.graph.specs.Tests.{and-first, and-second}
-use Rattle.graph.specs.Ranges.{Accepted}
 use Rattle.graph.specs.Trees.{small-good, Trees}
 use Rattle.graph.specs.Bridge.{carries-same}
 
@@ -41,34 +37,38 @@ module _ (Γ fn : List ℕ) where
   abbrev pub Ok : Forest → Type 0
   Ok E = Shaped Γ (local-types fn) E
 
-  -- a good state has 512 nodes at most
-  pub good-small : {E : Forest} → Good (frame Γ fn) Ok E → sizes E ≤ most
+  -- a good state is one that a state record may have
+  pub good-valid : {E : Forest} → Good (frame Γ fn) Ok E → Valid Γ (local-types fn) E
   unfolding frame
-  good-small {E} g = leb-true (sizes E) most (g .fits)
+  good-valid {E} g = record { fits = g .ok .fits; small = leb-true (sizes E) most (g .fits); shallow = g .ok .shallow }
+
+  -- such a state is shaped
+  valid-shaped : {E : Forest} → Valid Γ (local-types fn) E → Ok E
+  valid-shaped v = record { fits = v .fits; shallow = v .shallow }
 
   -- THE JOIN
   pub frame-lattice : Lattice (frame Γ fn) Ok
   unfolding frame
-  frame-lattice = record {
-    laws = record {
-      ok = λ {a} {b} f g. record { fits = fits-join false (f .fits) (g .fits); shallow = omega (arith, joins-depths Γ false a b, f .shallow, g .shallow) };
-      self = joins-self Γ false;
-      comm = λ f g. joins-comm false (f .fits) (g .fits);
-      assoc = λ f g h. joins-assoc false (f .fits) (g .fits) (h .fits);
-    };
-    unchanged = λ f g e. flags1-law false (f .fits) (g .fits) .0 e;
-    falls = λ {S} {E} f g r e. measure-falls (f .ok .fits) (g .fits) (leb-true (sizes S) most (f .fits)) (leb-true (sizes (joins Γ false S E)) most r)
-        (flags1-changed false (f .ok .fits) (g .fits) .0 e);
-    bounded = λ {E} g. measure-bound Γ E (leb-true (sizes E) most (g .fits));
-  }
+  frame-lattice =
+      let L = states Γ false (local-types fn) in
+      record {
+        laws = record {
+          ok = λ {a} {b} f g. record { fits = L .ok (f .fits) (g .fits); shallow = omega (arith, joins-depths Γ false a b, f .shallow, g .shallow) };
+          self = L .self;
+          comm = λ f g. L .comm (f .fits) (g .fits);
+          assoc = λ f g h. L .assoc (f .fits) (g .fits) (h .fits);
+        };
+        unchanged = λ f g e. flags1-law false (f .fits) (g .fits) .0 e;
+        falls = λ {S} {E} f g r e. measure-falls (f .ok .fits) (g .fits) (leb-true (sizes S) most (f .fits)) (leb-true (sizes (joins Γ false S E)) most r)
+            (flags1-changed false (f .ok .fits) (g .fits) .0 e);
+        bounded = λ {E} g. measure-bound Γ E (leb-true (sizes E) most (g .fits));
+      }
 
   -- at the entry
-  pub folded-good : Accepted fn → Good (frame Γ fn) Ok (leaves (local-types fn))
-  unfolding local-types function-sizes
+  pub folded-good : FunctionFacts fn → Good (frame Γ fn) Ok (leaves (local-types fn))
   folded-good A =
-      let few = leb-true (nlocals fn) 256 (search (and-first, and-second)) in
-      let long : length (local-types fn) ≤ nlocals fn = simp length-take (omega arith) in
-      small-good Γ fn (record { fits = fits-leaves (local-types fn); shallow = omega (arith, depths-leaves (local-types fn)) }) (omega (arith, sizes-leaves (local-types fn)))
+      let v : Valid Γ (local-types fn) (leaves (local-types fn)) = leaves-valid (omega (arith, A .few-locals, length-local-types A)) in
+      small-good Γ fn (valid-shaped v) (v .small)
 
   module _ (t : types-ok Γ ≡ true) where
     -- THE COLLECTION
@@ -80,34 +80,20 @@ module _ (Γ fn : List ℕ) where
           record { stmts = a; given = c; leads = carries-same Γ fn a E ∙ d };
     }
 
-    -- PLACES USED, MATCH ARMS, RETURNS
-    usable-used : (q : Spot) → used-ok (nlocals fn) q ≡ true → (usable (q .place) ≡ true) × (steps (q .place) ≤ 63)
-    unfolding used-ok spot-ok
-    usable-used q u = (search (and-first, and-second), leb-true (steps (q .place)) 63 (search (and-first, and-second)))
-
-    -- what the laws of trees say
+    -- PLACES USED, MATCH ARMS, RETURNS: what the laws of trees say
     pub frame-trees : Trees Γ fn Ok
     frame-trees = record {
-      projects = λ q E u o e.
-          let n = usable-used q u in
+      projects = λ q E u g e.
+          let n = used-limits (nlocals fn) q u in
+          let v = good-at (projection-valid q (good-valid g) (n .plain) (n .near)) e in
           record {
-            ok = record {
-              fits = good-at (projection-fits Γ q E (n .0) (o .fits)) e;
-              shallow = good-at (projection-levels Γ q E (n .0) (n .1) (o .shallow)) e;
-            };
-            small = good-at (projection-small Γ q E) e;
-            carried = good-at (projection-carry Γ q E (n .0)) e;
-            quiet = good-at (projection-quiet Γ q E (n .0)) e;
+            ok = valid-shaped v;
+            small = v .small;
+            carried = good-at (projection-carry Γ q E (n .plain)) e;
+            quiet = good-at (projection-quiet Γ q E (n .plain)) e;
           };
-      opens = λ q v E u o e.
-          let k = good-at (downcasting-cast Γ q v E) e in
-          record {
-            ok = record {
-              fits = good-at (cast-fits Γ q v (o .fits)) (k .0);
-              shallow = good-at (cast-at-levels Γ q v E ((usable-used q u) .1) (o .shallow)) (k .0);
-            };
-            small = k .1;
-            cast = k .0;
-          };
+      opens = λ q v E u g e.
+          let w = good-at (downcasting-valid q v (good-valid g) ((used-limits (nlocals fn) q u) .near)) e in
+          record { ok = valid-shaped w; small = w .small; cast = (good-at (downcasting-cast Γ q v E) e) .0 };
       returns = λ {E} o. (returned-at Γ (nargs fn) E, folds-at-ret-carry Γ (types-sound Γ t) (nargs fn) (o .fits));
     }

@@ -20,21 +20,23 @@ use Rattle.model.specs.Measure.{ceiling}
 use Rattle.model.specs.Body.{enter-uses, frame}
 use Rattle.model.specs.Record.{entries, statement-record, lent}
 use Rattle.model.specs.Whole.{passes, ghost-statements, with-buffer, accepted, denied, result, shorter, found, whole}
+use Rattle.model.specs.Replay.{Replayed}
+use Rattle.base.specs.Tests.{split, clash}
+use Rattle.base.specs.Answer.{then-done}
+use Rattle.base.specs.Function.{FunctionFacts, function-facts}
 use Rattle.laws.specs.Valid.{Valid}
 use Rattle.records.specs.Recorded.{recorded-written, recorded-lent}
-use Rattle.solver.specs.Base.{split, answer, then-done, clash}
 use Rattle.solver.specs.Laws.{Good, Lawful}
 use Rattle.solver.specs.Changes.{changes, changes-ceiling}
 use Rattle.solver.specs.Whole as W
-use Rattle.graph.specs.Ranges.{Accepted, function-accepted, owner}
+use Rattle.graph.specs.Ranges.{owner}
 use Rattle.graph.specs.Targets.{frame-edges}
 use Rattle.graph.specs.Used.{entry-used}
 use Rattle.graph.specs.Trees.{Trees}
 use Rattle.graph.specs.Bridge.{player}
 use Rattle.graph.specs.Lawful.{frame-bodies, frame-lawful, entry-enters}
 use Rattle.graph.specs.Demand.{passes-replayed}
-use Rattle.model.specs.Replay.{Replayed}
-use Rattle.demand.specs.States.{Ok, good-small, frame-lattice, folded-good, frame-collects, frame-trees}
+use Rattle.demand.specs.States.{Ok, good-valid, frame-lattice, folded-good, frame-collects, frame-trees}
 
 -- refusals 1, 2 and 4 are passed
 pub record Passed (Γ fn : List ℕ) : Type 0 where
@@ -49,9 +51,9 @@ pub record Stored (Γ fn : List ℕ) (b : ℕ) (S : Forest) : Type 0 where
   pub valid : Valid Γ (local-types fn) S
 
 module _ {Γ fn : List ℕ} (H : Passed Γ fn) where
-  -- the items pass
-  pub items-accepted : Accepted fn
-  items-accepted = function-accepted Γ fn (H .function)
+  -- what the function record says
+  pub facts : FunctionFacts fn
+  facts = function-facts Γ fn (H .function)
 
   -- the trees do as asked
   pub trees : Trees Γ fn (Ok Γ fn)
@@ -59,12 +61,12 @@ module _ {Γ fn : List ℕ} (H : Passed Γ fn) where
 
   -- all that the passes ask
   pub lawful : Lawful (frame Γ fn) (Ok Γ fn) (owner fn) (player Γ fn)
-  lawful = frame-lawful items-accepted (H .places) trees (frame-lattice Γ fn) (frame-collects Γ fn (H .types))
+  lawful = frame-lawful facts (H .places) trees (frame-lattice Γ fn) (frame-collects Γ fn (H .types))
 
   -- the state that the entry's uses leave: the entry's statements lead to it
   pub entered : {E : Forest} {ts : List At} → enter-uses Γ (entry-uses fn) (leaves (local-types fn)) ≡ done (E, ts)
       → (carries (frame Γ fn) ts (leaves (local-types fn)) ≡ done E) × Good (frame Γ fn) (Ok Γ fn) E
-  entered e = entry-enters items-accepted (H .places) trees (entry-used items-accepted (H .places)) (leaves (local-types fn)) (folded-good Γ fn items-accepted) e
+  entered e = entry-enters facts (H .places) trees (entry-used facts (H .places)) (leaves (local-types fn)) (folded-good Γ fn facts) e
 
   -- after an accepted first pass the second is accepted, and the stored states are the first pass's
   pub second-accepted : {E : Forest} {ts : List At} {s : Store Forest} → enter-uses Γ (entry-uses fn) (leaves (local-types fn)) ≡ done (E, ts)
@@ -82,22 +84,22 @@ module _ {Γ fn : List ℕ} (H : Passed Γ fn) where
       let M = W.accepted-made (frame Γ fn) (Ok Γ fn) (owner fn) (player Γ fn) lawful (s .1) (s .0) ((entered u) .1) a in
       let P = M .solution .placed b S k in
       let g = M .solution .fine b S k in
-      record { below = P .below; joins = P .joins; valid = record { fits = g .ok .fits; small = good-small Γ fn g; shallow = g .ok .shallow } }
+      record { below = P .below; joins = P .joins; valid = good-valid Γ fn g }
 
   -- THE CEILING: how often a stored state changes after its first arrival
   pub changes-most : (b : ℕ) {E : Forest} {ts : List At} → enter-uses Γ (entry-uses fn) (leaves (local-types fn)) ≡ done (E, ts)
       → changes (frame Γ fn) b E ≤ ceiling
   unfolding frame
-  changes-most b u = changes-ceiling (frame Γ fn) (Ok Γ fn) (frame-lattice Γ fn) b (frame-bodies items-accepted (H .places) trees) (frame-edges items-accepted Γ) ((entered u) .1)
+  changes-most b u = changes-ceiling (frame Γ fn) (Ok Γ fn) (frame-lattice Γ fn) b (frame-bodies facts (H .places) trees) (frame-edges facts Γ) ((entered u) .1)
 
   -- DEMAND 3, of the statement record
   pub passes-demand : {r : Found Forest At} → passes Γ fn ≡ done r → Replayed Γ fn (statement-record (entry-point fn) (r .lines))
-  passes-demand {r} e = passes-replayed items-accepted (H .places) trees (frame-lattice Γ fn) (frame-collects Γ fn (H .types)) (folded-good Γ fn items-accepted)
+  passes-demand {r} e = passes-replayed facts (H .places) trees (frame-lattice Γ fn) (frame-collects Γ fn (H .types)) (folded-good Γ fn facts)
       (statement-record (entry-point fn) (r .lines)) (recorded-written (entry-point fn) (r .lines)) e
 
   -- of the record in a lent buffer, zeros behind it
   pub lent-demand : {r : Found Forest At} (n : ℕ) → passes Γ fn ≡ done r → Replayed Γ fn (lent n (statement-record (entry-point fn) (r .lines)))
-  lent-demand {r} n e = passes-replayed items-accepted (H .places) trees (frame-lattice Γ fn) (frame-collects Γ fn (H .types)) (folded-good Γ fn items-accepted)
+  lent-demand {r} n e = passes-replayed facts (H .places) trees (frame-lattice Γ fn) (frame-collects Γ fn (H .types)) (folded-good Γ fn facts)
       (lent n (statement-record (entry-point fn) (r .lines))) (recorded-lent (entry-point fn) n (r .lines)) e
 
 -- AN ACCEPTED CALL
@@ -115,6 +117,7 @@ ghost-passed Γ fn store {r} e = split (types-ok Γ)
     (λ b. clash (cc)))
     (λ a. clash (cc))
 
+-- the statement buffer is large enough, or the call is refused
 buffer-same : (fn : List ℕ) (n : ℕ) (s : Found Forest At) {r : Found Forest At} → with-buffer fn n s ≡ done r → s ≡ r
 unfolding with-buffer
 buffer-same fn n s e = split (leb (2 + 2 * length (entries (entry-point fn) (s .lines))) n) (λ d. cc) (λ d. clash (cc))
@@ -128,6 +131,7 @@ module _ (Γ fn : List ℕ) (nforms nwhats nout : ℕ) where
       let (H, p) = ghost-passed Γ fn (shorter Γ fn nforms nwhats nout) u in
       (H, p ∙ ap done (buffer-same fn nout s d))
 
+  -- of an accepted call's result
   result-demand : (a : Answer (Found Forest At)) → found Γ fn nforms nwhats nout ≡ a → {c : ℕ × ℕ} → (result Γ fn nforms nwhats nout a) .answer ≡ done c
       → Replayed Γ fn ((result Γ fn nforms nwhats nout a) .out)
   unfolding result accepted denied

@@ -5,23 +5,26 @@ use mathlib.Core.Bool.{true}
 use mathlib.Core.Option.{some}
 use mathlib.Core.List.{List, [], _∷_}
 use Prim.Native.Nat.{ℕ}
+use lib.Dec.{eqb}
+use borrow.Author.Tests.{eqb-true}
 use Rattle.model.specs.Answer.{done}
 use Rattle.model.specs.Tree.{Forest, leaves}
 use Rattle.model.specs.Place.{At}
 use Rattle.model.specs.Function.{local-types}
-use Rattle.model.specs.Block.{places-ok, entry-uses, entry-point, stations, targets}
+use Rattle.model.specs.Block.{places-ok, entry-uses, entry-point, targets}
 use Rattle.model.specs.Passes.{Found}
 use Rattle.model.specs.Body.{enter-uses, frame}
 use Rattle.model.specs.Record.{recorded}
-use Rattle.model.specs.Replay.{find, script, replay, Jumps, jumps-end, jumps-on, Replayed}
+use Rattle.model.specs.Replay.{find, script, Jumps, jumps-end, jumps-on, Replayed}
 use Rattle.model.specs.Whole.{passes}
-use Rattle.solver.specs.Base.{then-done, split, clash, Has, here, later}
-use borrow.Author.Tests.{eqb-true}
-use lib.Dec.{eqb}
+use Rattle.base.specs.Tests.{split, clash}
+use Rattle.base.specs.Answer.{then-done}
+use Rattle.base.specs.Function.{FunctionFacts}
+use Rattle.solver.specs.Lists.{Has, here, later}
 use Rattle.solver.specs.Player as P
 use Rattle.solver.specs.Laws.{Good, Lattice, Collects}
 use Rattle.solver.specs.Whole as W
-use Rattle.graph.specs.Ranges.{Accepted, owner}
+use Rattle.graph.specs.Ranges.{owner}
 use Rattle.graph.specs.Used.{entry-used}
 use Rattle.graph.specs.Trees.{Trees}
 use Rattle.graph.specs.Bridge.{player, replay-same}
@@ -35,12 +38,13 @@ find-has i {c} (t ∷ ts) e = split (eqb (t .0) i)
     (λ d. let p : t .0 ≡ i = eqb-true (t .0) i d in let q : t .1 ≡ c = cc in rw (← p, ← q) here)
     (λ d. later (find-has i ts (cc)))
 
+-- a list of jumps is one over any states
 jumps-path : (Γ : List ℕ) {fn : List ℕ} {b d : ℕ} {is : List ℕ} → Jumps fn b is d → P.Path (frame Γ fn) b is d
 unfolding frame
 jumps-path Γ jumps-end = P.path-end
 jumps-path Γ {fn} (jumps-on {b} {i} h j) = P.path-on (find-has i (targets fn b) h) (jumps-path Γ j)
 
-module _ {Γ fn : List ℕ} (A : Accepted fn) (P : places-ok fn ≡ true) {Ok : Forest → Type 0} (T : Trees Γ fn Ok)
+module _ {Γ fn : List ℕ} (A : FunctionFacts fn) (P : places-ok fn ≡ true) {Ok : Forest → Type 0} (T : Trees Γ fn Ok)
     (L : Lattice (frame Γ fn) Ok) (C : Collects (frame Γ fn) Ok) (folded : Good (frame Γ fn) Ok (leaves (local-types fn))) where
   -- of what both passes find: words is a record of its lines
   pub passes-replayed : {r : Found Forest At} (words : List ℕ) → recorded (entry-point fn) words ≡ r .lines → passes Γ fn ≡ done r → Replayed Γ fn words

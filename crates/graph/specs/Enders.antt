@@ -11,59 +11,66 @@ use borrow.Author.Tests.{leb-true, eqb-true, le-leb, lt-leb, eq-eqb}
 use Rattle.model.specs.Words.{all}
 use Rattle.model.specs.Function.{nblocks, start, stop, op, follow-table, may-follow, after}
 use Rattle.model.specs.Block.{is-arm}
-use Rattle.solver.specs.Base.{split, clash}
-use Rattle.graph.specs.Tests.{and-first, and-second, or-true}
-use Rattle.graph.specs.Ranges.{Accepted, Holds, start-stop}
+use Rattle.base.specs.Tests.{split, clash, and-left, and-right, or-passes}
+use Rattle.base.specs.Function.{FunctionFacts}
+use Rattle.graph.specs.Ranges.{Holds}
 use Rattle.graph.specs.Follow.{Checked}
 use Rattle.graph.specs.Items.{before-at, before-first, before-next, block-ends}
 use Rattle.graph.specs.Places.{block-part, part-says, part-back, start-behind}
 
 -- FACTS OF THE TABLE
 
+-- from an ender's first item on, the rows are those of an ender
 ender-table : Checked (λ k o. leb 8 o || leb 6 k) (λ k o. leb 6 (after k o))
 unfolding all may-follow follow-table after
 ender-table = refl
 
+-- in those rows stand arms and targets alone
 inside-table : Checked (λ k o. leb 6 k) (λ k o. leb 9 o && leb o 10)
 unfolding all may-follow follow-table after
 inside-table = refl
 
+-- up to a note, the rows of the body are left by no item
 body-table : Checked (λ k o. leb o 7 && leb k 5) (λ k o. leb (after k o) 5)
 unfolding all may-follow follow-table after
 body-table = refl
 
+-- in the body stand items up to a switch, and else what ends the block
 first-table : Checked (λ k o. leb k 5) (λ k o. leb o 8 || leb 10 o && eqb (after k o) 8)
 unfolding all may-follow follow-table after
 first-table = refl
 
+-- a target, a return or a stop ends a block
 last-table : Checked (λ k o. eqb (after k o) 8) (λ k o. leb 10 o && leb o 12)
 unfolding all may-follow follow-table after
 last-table = refl
 
+-- nothing follows the end
 over-table : Checked (λ k o. eqb k 8) (λ k o. false)
 unfolding all may-follow follow-table after
 over-table = refl
 
-exit-table : Checked (λ k o. leb 11 o) (λ k o. eqb (after k o) 8)
-unfolding all may-follow follow-table after
-exit-table = refl
-
+-- a switch and an arm do not end the block
 on-table : Checked (λ k o. leb o 9) (λ k o. leb (after k o) 7)
 unfolding all may-follow follow-table after
 on-table = refl
 
+-- behind an arm stands a target, and then an arm or a target
 arm-table : Checked (λ k o. eqb k 7) (λ k o. eqb o 10 && eqb (after k o) 6)
 unfolding all may-follow follow-table after
 arm-table = refl
 
+-- an arm has a row of its own
 armed-table : Checked (λ k o. eqb o 9) (λ k o. eqb (after k o) 7)
 unfolding all may-follow follow-table after
 armed-table = refl
 
+-- which no other item leads to
 back-table : Checked (λ k o. eqb (after k o) 7) (λ k o. eqb o 9)
 unfolding all may-follow follow-table after
 back-table = refl
 
+-- a target stands behind an arm, or ends the block
 target-table : Checked (λ k o. eqb o 10) (λ k o. eqb k 7 || eqb (after k o) 8)
 unfolding all may-follow follow-table after
 target-table = refl
@@ -74,7 +81,8 @@ pub record Ender (fn : List ℕ) (b e : ℕ) : Type 0 where
   pub code : 8 ≤ op fn e
   pub body : (x : ℕ) → start fn b ≤ x → x < e → op fn x ≤ 7
 
-module _ {fn : List ℕ} (A : Accepted fn) where
+module _ {fn : List ℕ} (A : FunctionFacts fn) where
+  -- what the table says of an item of a block
   item-says : {b i : ℕ} → Holds fn b i → (H Q : ℕ → ℕ → Bool) → Checked H Q → H (before-at fn b i) (op fn i) ≡ true → Q (before-at fn b i) (op fn i) ≡ true
   item-says {b} {i} h H Q c e = part-says (block-part A (h .block)) H Q c i (h .low) (h .high) e
 
@@ -101,26 +109,23 @@ module _ {fn : List ℕ} (A : Accepted fn) where
 
   -- a block's last item lies in it
   pub last-holds : {b : ℕ} → b < nblocks fn → Holds fn b (stop fn b - 1)
-  last-holds {b} l = let m = start-stop A l in record { block = l; low = omega arith; high = omega arith }
+  last-holds {b} l = let m = A .starts _ l in record { block = l; low = omega arith; high = omega arith }
 
   -- a block's last item is a target, a return or a stop
   pub last-op : {b : ℕ} → b < nblocks fn → (10 ≤ op fn (stop fn b - 1)) × (op fn (stop fn b - 1) ≤ 12)
   last-op {b} l =
-      let h = part-back (block-part A l) (λ k. eqb k 8) (λ k o. leb 10 o && leb o 12) last-table (stop fn b) (start-stop A l) (omega arith) (eq-eqb _ 8 (block-ends A l)) in
-      (leb-true 10 (op fn (stop fn b - 1)) (search and-first), leb-true (op fn (stop fn b - 1)) 12 (search and-second))
-
-  -- a return and a stop are the last
-  pub exit-last : {b i : ℕ} → Holds fn b i → 11 ≤ op fn i → suc i ≡ stop fn b
-  exit-last {b} {i} h l = ends-here h (eqb-true _ 8 (item-says h (λ k o. leb 11 o) (λ k o. eqb (after k o) 8) exit-table (le-leb 11 (op fn i) l)))
+      let h = part-back (block-part A l) (λ k. eqb k 8) (λ k o. leb 10 o && leb o 12) last-table (stop fn b) (A .starts _ l) (omega arith) (eq-eqb _ 8 (block-ends A l)) in
+      (leb-true 10 (op fn (stop fn b - 1)) (search and-left), leb-true (op fn (stop fn b - 1)) 12 (search and-right))
 
   -- BEHIND AN ITEM FROM 8 ON
 
+  -- behind an item from 8 on the rows are those of an ender
   ender-row : {b i : ℕ} → Holds fn b i → 8 ≤ op fn i → (x : ℕ) → i < x → x ≤ stop fn b → 6 ≤ before-at fn b x
   ender-row {b} {i} h l zero m n = absurd (omega arith)
   ender-row {b} {i} h l (suc x) m n =
       let k : Holds fn b x = record { block = h .block; low = omega (arith, h .low); high = n } in
       let c : leb 8 (op fn x) || leb 6 (before-at fn b x) ≡ true = elim (decLt i x) [
-        | yes u ↦ or-true (leb 8 (op fn x)) _ (le-leb 6 _ (ender-row h l x u (omega arith)))
+        | yes u ↦ or-passes (leb 8 (op fn x)) _ (le-leb 6 _ (ender-row h l x u (omega arith)))
         | no u ↦ let q : x ≡ i = omega arith in cc (le-leb 8 (op fn i) l)
       ] in
       rw (before-next fn 2 (start fn b) x (k .low)) (leb-true 6 _ (item-says k (λ k o. leb 8 o || leb 6 k) (λ k o. leb 6 (after k o)) ender-table c))
@@ -129,10 +134,11 @@ module _ {fn : List ℕ} (A : Accepted fn) where
   pub ender-on : {b i x : ℕ} → Holds fn b i → 8 ≤ op fn i → Holds fn b x → i < x → (9 ≤ op fn x) × (op fn x ≤ 10)
   ender-on {b} {i} {x} h l k m =
       let c = item-says k (λ k o. leb 6 k) (λ k o. leb 9 o && leb o 10) inside-table (le-leb 6 _ (ender-row h l x m (omega (arith, k .high)))) in
-      (leb-true 9 (op fn x) (search and-first), leb-true (op fn x) 10 (search and-second))
+      (leb-true 9 (op fn x) (search and-left), leb-true (op fn x) 10 (search and-right))
 
   -- THE ENDER
 
+  -- the first item from 8 on, among those from i on
   ender-from : {b : ℕ} → b < nblocks fn → (n i : ℕ) → i + n ≡ stop fn b → start fn b ≤ i → ((x : ℕ) → start fn b ≤ x → x < i → op fn x ≤ 7) → (e : ℕ) × Ender fn b e
   ender-from {b} l zero i z m f =
       let h = last-holds l in
@@ -145,14 +151,7 @@ module _ {fn : List ℕ} (A : Accepted fn) where
 
   -- each block has one
   pub block-ender : {b : ℕ} → b < nblocks fn → (e : ℕ) × Ender fn b e
-  block-ender {b} l = ender-from l (stop fn b - start fn b) (start fn b) (omega (arith, start-stop A l)) (omega arith) (λ x u v. absurd (omega arith))
-
-  -- and no other
-  pub ender-same : {b e d : ℕ} → Ender fn b e → Ender fn b d → e ≡ d
-  ender-same {b} {e} {d} E D = elim (decLt e d) [
-    | yes l ↦ absurd (omega (arith, D .body e (E .holds .low) l, E .code))
-    | no l ↦ elim (decLt d e) [ yes m ↦ absurd (omega (arith, E .body d (D .holds .low) m, D .code)) | no m ↦ omega arith ]
-  ]
+  block-ender {b} l = ender-from l (stop fn b - start fn b) (start fn b) (omega (arith, A .starts _ l)) (omega arith) (λ x u v. absurd (omega arith))
 
   -- up to it the rows are those of the body
   pub body-row : {b e : ℕ} → Ender fn b e → (x : ℕ) → x ≤ e → before-at fn b x ≤ 5
@@ -173,7 +172,7 @@ module _ {fn : List ℕ} (A : Accepted fn) where
       let o = op fn e in
       let c = item-says (E .holds) (λ k o. leb k 5) (λ k o. leb o 8 || leb 10 o && eqb (after k o) 8) first-table (le-leb k 5 (body-row E e (omega arith))) in
       let d : leb 10 o && eqb (after k o) 8 ≡ true = rw (lt-leb o 8 l) at c in
-      (leb-true 10 o (search and-first), ends-here (E .holds) (eqb-true (after k o) 8 (search and-second)))
+      (leb-true 10 o (search and-left), ends-here (E .holds) (eqb-true (after k o) 8 (search and-right)))
 
   -- A SWITCH'S ARMS AND TARGETS
 
@@ -190,7 +189,7 @@ module _ {fn : List ℕ} (A : Accepted fn) where
       let n = goes-on h (leb-true _ 7 (item-says h (λ k o. leb o 9) (λ k o. leb (after k o) 7) on-table (rw e refl))) in
       let r : eqb (before-at fn b (suc i)) 7 ≡ true = rw (before-next fn 2 (start fn b) i (h .low)) (item-says h (λ k o. eqb o 9) (λ k o. eqb (after k o) 7) armed-table (rw e refl)) in
       let c = item-says n (λ k o. eqb k 7) (λ k o. eqb o 10 && eqb (after k o) 6) arm-table r in
-      (n, eqb-true (op fn (suc i)) 10 (search and-first))
+      (n, eqb-true (op fn (suc i)) 10 (search and-left))
 
   -- an arm's target stands behind its arm, in the block
   pub armed-inside : {b i : ℕ} → Holds fn b i → op fn i ≡ 10 → is-arm fn i ≡ true → start fn b < i
@@ -219,6 +218,7 @@ module _ {fn : List ℕ} (A : Accepted fn) where
       let c = item-says k (λ k o. eqb o 9) (λ k o. eqb (after k o) 7) armed-table a in
       rw q at (before-next fn 2 (start fn b) (i - 1) (k .low) ∙ eqb-true _ 7 c)
 
+  -- and a target in that row is an arm's
   row-armed : {b i : ℕ} → Holds fn b i → before-at fn b i ≡ 7 → is-arm fn i ≡ true
   unfolding is-arm
   row-armed {b} {i} h e = elim (decLt (start fn b) i) [
@@ -230,7 +230,7 @@ module _ {fn : List ℕ} (A : Accepted fn) where
   pub armed-next : {b i : ℕ} → Holds fn b i → op fn i ≡ 10 → is-arm fn i ≡ true → Holds fn b (suc i) × (9 ≤ op fn (suc i)) × (op fn (suc i) ≤ 10)
   armed-next {b} {i} h e a =
       let c = item-says h (λ k o. eqb k 7) (λ k o. eqb o 10 && eqb (after k o) 6) arm-table (rw (armed-row h e a) refl) in
-      let d = eqb-true (after (before-at fn b i) (op fn i)) 6 (search and-second) in
+      let d = eqb-true (after (before-at fn b i) (op fn i)) 6 (search and-right) in
       let n = goes-on h (omega arith) in
       let k = ender-on h (omega arith) n (omega arith) in
       (n, k .0, k .1)
@@ -243,9 +243,3 @@ module _ {fn : List ℕ} (A : Accepted fn) where
       split (eqb k 7)
       (λ d. clash (cc (row-armed h (eqb-true k 7 d))))
       (λ d. ends-here h (eqb-true _ 8 (rw d at c)))
-
-  -- and the last item is no arm's
-  pub last-target : {b : ℕ} → b < nblocks fn → op fn (stop fn b - 1) ≡ 10 → is-arm fn (stop fn b - 1) ≡ false
-  last-target {b} l e = split (is-arm fn (stop fn b - 1))
-      (λ a. let (n, u, v) = armed-next (last-holds l) e a in absurd (omega (arith, n .high, (last-holds l) .high)))
-      (λ a. a)

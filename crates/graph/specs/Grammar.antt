@@ -12,9 +12,9 @@ use borrow.Author.Tests.{leb-true, eqb-true, le-leb, eq-eqb}
 use Rattle.model.specs.Words.{all}
 use Rattle.model.specs.Function.{nblocks, start, stop, op, follow-table, may-follow, after}
 use Rattle.model.specs.Block.{root-before, is-arm}
-use Rattle.solver.specs.Base.{split}
-use Rattle.graph.specs.Tests.{and-first, and-second}
-use Rattle.graph.specs.Ranges.{Accepted, Holds}
+use Rattle.base.specs.Tests.{split, and-left, and-right}
+use Rattle.base.specs.Function.{FunctionFacts}
+use Rattle.graph.specs.Ranges.{Holds}
 use Rattle.graph.specs.Follow.{Checked}
 use Rattle.graph.specs.Items.{before-from, before-entry, before-at, before-next, entry-ends}
 use Rattle.graph.specs.Places.{in-place, Placed, Part, part-says, part-placed, part-root, part-back, part-read, block-part, entry-part}
@@ -45,27 +45,33 @@ pub data Block (fn : List ℕ) (b : ℕ) : Type 0 where
 
 -- FACTS OF THE TABLE
 
+-- a use behind its place, or a note behind its, ends a statement
 rest-table : Checked (λ k o. eqb (after k o) 2) (λ k o. eqb o 5 && eqb k 3 || eqb o 7 && eqb k 5)
 unfolding all may-follow follow-table after
 rest-table = refl
 
+-- in the entry part, a use behind its place
 use-table : Checked (λ k o. eqb (after k o) 0) (λ k o. eqb o 5 && eqb k 1)
 unfolding all may-follow follow-table after
 use-table = refl
 
+-- a switch stands behind a place, or where a statement may begin
 switch-table : Checked (λ k o. eqb o 8) (λ k o. eqb k 2 || eqb k 3)
 unfolding all may-follow follow-table after
 switch-table = refl
 
+-- a target, a return and a stop stand where a statement may begin
 exit-table : Checked (λ k o. leb 10 o && leb k 5) (λ k o. eqb k 2 && leb o 12)
 unfolding all may-follow follow-table after
 exit-table = refl
 
+-- a read stands behind its place
 read-table : Checked (λ k o. eqb (after k o) 4) (λ k o. eqb o 6 && eqb k 3)
 unfolding all may-follow follow-table after
 read-table = refl
 
 module _ {fn : List ℕ} {s t : ℕ} (P : Part fn 2 s t) where
+  -- what stands before item i
   abbrev row : ℕ → ℕ
   row i = before-from fn 2 s i
 
@@ -81,6 +87,7 @@ module _ {fn : List ℕ} {s t : ℕ} (P : Part fn 2 s t) where
       let (p, r) = place-begins j (omega arith) e in
       statement-use (f (root-before fn j) (omega (arith, p .high)) (p .low) r) p o
 
+  -- behind a note
   step-note : (j : ℕ) → j < t → op fn j ≡ 7 → row j ≡ 5 → ((x : ℕ) → x < suc j → s ≤ x → row x ≡ 2 → Statements fn s x) → Statements fn s (suc j)
   step-note j l o e f =
       let c : in-place (row j) ≡ true = rw e refl in
@@ -90,20 +97,22 @@ module _ {fn : List ℕ} {s t : ℕ} (P : Part fn 2 s t) where
       let (a, b, q) = part-read P (root-before fn j) (omega arith) r in
       let k = root-before fn j - 1 in
       let d = part-back P (λ k. eqb k 4) (λ k o. eqb o 6 && eqb k 3) read-table (root-before fn j) a (omega arith) (eq-eqb (row (root-before fn j)) 4 r) in
-      let (_, g) = place-begins k (omega arith) (eqb-true (row k) 3 (search and-second)) in
+      let (_, g) = place-begins k (omega arith) (eqb-true (row k) 3 (search and-right)) in
       let z : root-before fn j ≡ suc k = omega arith in
       statement-note (f (root-before fn k) (omega (arith, q .high)) (q .low) g) q b z p o
 
+  -- behind either
   step-back : (j : ℕ) → s ≤ j → j < t → row (suc j) ≡ 2 → ((x : ℕ) → x < suc j → s ≤ x → row x ≡ 2 → Statements fn s x) → Statements fn s (suc j)
   step-back j l m e f =
       let c = part-says P (λ k o. eqb (after k o) 2) (λ k o. eqb o 5 && eqb k 3 || eqb o 7 && eqb k 5) rest-table j l m
       (eq-eqb (after (row j) (op fn j)) 2 (sym (before-next fn 2 s j l) ∙ e)) in
       split (eqb (op fn j) 5 && eqb (row j) 3)
-      (λ d. step-use j m (eqb-true (op fn j) 5 (search and-first)) (eqb-true (row j) 3 (search and-second)) f)
+      (λ d. step-use j m (eqb-true (op fn j) 5 (search and-left)) (eqb-true (row j) 3 (search and-right)) f)
       (λ d.
       let g : eqb (op fn j) 7 && eqb (row j) 5 ≡ true = rw d at c in
-      step-note j m (eqb-true (op fn j) 7 (search and-first)) (eqb-true (row j) 5 (search and-second)) f)
+      step-note j m (eqb-true (op fn j) 7 (search and-left)) (eqb-true (row j) 5 (search and-right)) f)
 
+  -- wherever a statement may begin, statements stand before
   statements : (n i : ℕ) → i ≤ n → s ≤ i → i ≤ t → row i ≡ 2 → Statements fn s i
   statements zero i l m u e = let q : i ≡ s = omega arith in rw q no-statement
   statements (suc n) zero l m u e = let q : s ≡ 0 = omega arith in rw q no-statement
@@ -112,7 +121,7 @@ module _ {fn : List ℕ} {s t : ℕ} (P : Part fn 2 s t) where
     | no v ↦ step-back j (omega arith) u e (λ x y z w. statements n x (omega arith) z (omega arith) w)
   ]
 
-module _ {fn : List ℕ} (A : Accepted fn) where
+module _ {fn : List ℕ} (A : FunctionFacts fn) where
   -- the entry part
   entry-uses-from : (n i : ℕ) → i ≤ n → i ≤ start fn 0 → before-entry fn i ≡ 0 → Uses fn i
   entry-uses-from zero i l m e = let q : i ≡ 0 = omega arith in rw q uses-none
@@ -122,11 +131,11 @@ module _ {fn : List ℕ} (A : Accepted fn) where
       let k = before-entry fn j in
       let c = part-says P (λ k o. eqb (after k o) 0) (λ k o. eqb o 5 && eqb k 1) use-table j (omega arith) m
       (eq-eqb (after k (op fn j)) 0 (sym (before-next fn 0 0 j (omega arith)) ∙ e)) in
-      let r = eqb-true k 1 (search and-second) in
+      let r = eqb-true k 1 (search and-right) in
       let i : in-place k ≡ true = rw r refl in
       let p = part-placed P j (omega arith) i in
       let h = p .high in
-      uses-more (entry-uses-from n (root-before fn j) (omega arith) (omega arith) (omega (arith, part-root P j (omega arith) i))) p (eqb-true (op fn j) 5 (search and-first))
+      uses-more (entry-uses-from n (root-before fn j) (omega arith) (omega arith) (omega (arith, part-root P j (omega arith) i))) p (eqb-true (op fn j) 5 (search and-left))
 
   -- the whole of it
   pub entry-grammar : Uses fn (start fn 0)
@@ -147,6 +156,7 @@ module _ {fn : List ℕ} (A : Accepted fn) where
         arms-more d c (arms-from n (suc (suc i)) (omega arith) j u v (rw (r, c) refl))
   ]
 
+  -- the arms and targets of a switch
   switch-arms : {b e : ℕ} → Holds fn b e → op fn e ≡ 8 → Arms fn (stop fn b) (suc e)
   unfolding is-arm
   switch-arms {b} {e} h o =
@@ -174,5 +184,5 @@ module _ {fn : List ℕ} (A : Accepted fn) where
             let (u, z) = ender-last A E (omega (arith, E .code)) in
             let c = part-says P (λ k o. leb 10 o && leb k 5) (λ k o. eqb k 2 && leb o 12) exit-table e (h .low) (h .high)
             (cc (le-leb 10 (op fn e) u, le-leb k 5 (body-row A E e (omega arith)))) in
-            block-exit (begin e (h .low) (omega arith) (eqb-true k 2 (search and-first))) u (leb-true (op fn e) 12 (search and-second)) z
+            block-exit (begin e (h .low) (omega arith) (eqb-true k 2 (search and-left))) u (leb-true (op fn e) 12 (search and-right)) z
       ]

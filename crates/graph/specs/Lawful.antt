@@ -12,12 +12,15 @@ use Rattle.model.specs.Block.{places-ok, targets, returns, matched}
 use Rattle.model.specs.Frame.{Work, target, carries}
 use Rattle.model.specs.Body.{enter-uses, frame}
 use Rattle.model.specs.Replay.{at-point, own}
-use Rattle.solver.specs.Base.{split, then-done, Has, has-map, All, all-none, all-more, all-has, all-map}
+use Rattle.base.specs.Tests.{split}
+use Rattle.base.specs.Answer.{then-done}
+use Rattle.base.specs.Each.{Each, each-none, each-more, each-same}
+use Rattle.base.specs.Function.{FunctionFacts}
+use Rattle.solver.specs.Lists.{Has, has-map, each-has}
 use Rattle.solver.specs.Laws.{Good, Lattice, Bodies, Collects, Inside, Followed, Follows, Lawful}
 use Rattle.solver.specs.Demand.{carries-append}
-use Rattle.graph.specs.Ranges.{Accepted, owner}
-use Rattle.graph.specs.Targets.{targets-once, frame-edges}
-use Rattle.graph.specs.Shapes.{returns-none}
+use Rattle.graph.specs.Ranges.{owner}
+use Rattle.graph.specs.Targets.{targets-once, frame-edges, returns-none}
 use Rattle.graph.specs.Points.{Ran, body-ran, ran-listed, frame-listed, rests-inside, frame-points}
 use Rattle.graph.specs.Used.{matched-used}
 use Rattle.graph.specs.Trees.{small-good, Trees}
@@ -25,13 +28,14 @@ use Rattle.graph.specs.Through.{same-parts, follow-through, follow-fine,
 use Rattle.graph.specs.Departs.{Departs, exits-depart}
 use Rattle.graph.specs.Bridge.{player, carries-same}
 
+-- nothing stands in an empty list
 no-member : {P A : Type 0} {a : A} → Has a [] → P
 no-member = elim [ ]
 
-module _ {Γ fn : List ℕ} (A : Accepted fn) (P : places-ok fn ≡ true) {Ok : Forest → Type 0} (T : Trees Γ fn Ok) where
+module _ {Γ fn : List ℕ} (A : FunctionFacts fn) (P : places-ok fn ≡ true) {Ok : Forest → Type 0} (T : Trees Γ fn Ok) where
   -- each exit of a block's run, from the state behind its statements
   ran-departs : {b : ℕ} {E : Forest} {w : Work Forest At} (R : Ran Γ fn b E w) → Good (frame Γ fn) Ok E
-      → All (Departs Γ fn T (matched fn b) (targets fn b) (R .end)) (w .exits)
+      → Each (Departs Γ fn T (matched fn b) (targets fn b) (R .end)) (w .exits)
   ran-departs {b} {E} {w} R g =
       let G = ran-gone A P T (λ p. at-point p (w .lines)) R (λ i r. refl) g in
       exits-depart Γ fn T (matched fn b) (λ q m. matched-used A P (R .block) m) (targets fn b) (R .end) (targets-once fn b) (G .good) (R .leaves)
@@ -39,7 +43,7 @@ module _ {Γ fn : List ℕ} (A : Accepted fn) (P : places-ok fn ≡ true) {Ok : 
   -- THE BODIES
   pub frame-bodies : Bodies (frame Γ fn) Ok
   frame-bodies = record {
-    good = λ {b} {E} {w} g e. all-map (λ x d. d .1) (ran-departs (body-ran Γ fn e) g);
+    good = λ {b} {E} {w} g e. each-same (λ x d. d .1) (ran-departs (body-ran Γ fn e) g);
     listed = λ {b} {E} {w} e. frame-listed Γ fn b E e;
   }
 
@@ -56,7 +60,7 @@ module _ {Γ fn : List ℕ} (A : Accepted fn) (P : places-ok fn ≡ true) {Ok : 
             ends = follow-through Γ f (G .follow);
             departs = λ {x} k. split (returns fn b)
                 (λ e. no-member (rw (ran-listed Γ fn R ∙ returns-none A (R .block) e) at (has-map target k)))
-                (λ e. ap (own Γ fn (x .item) (targets fn b) (matched fn b)) (G .plain e) ∙ (all-has (ran-departs R g) k) .0);
+                (λ e. ap (own Γ fn (x .item) (targets fn b) (matched fn b)) (G .plain e) ∙ (each-has (ran-departs R g) k) .0);
             fine = follow-fine Γ f (G .follow);
           }
 
@@ -72,17 +76,17 @@ module _ {Γ fn : List ℕ} (A : Accepted fn) (P : places-ok fn ≡ true) {Ok : 
   }
 
   -- THE ENTRY: its statements lead to the state that its uses leave
-  pub entry-enters : {qs : List Spot} → All (λ q. used-ok (nlocals fn) q ≡ true) qs → (E : Forest) {D : Forest} {ts : List At} → Good (frame Γ fn) Ok E
+  pub entry-enters : {qs : List Spot} → Each (λ q. used-ok (nlocals fn) q ≡ true) qs → (E : Forest) {D : Forest} {ts : List At} → Good (frame Γ fn) Ok E
       → enter-uses Γ qs E ≡ done (D, ts) → (carries (frame Γ fn) ts E ≡ done D) × Good (frame Γ fn) Ok D
   unfolding enter-uses carries
-  entry-enters all-none E g e =
+  entry-enters each-none E g e =
       let (z, y) = same-parts e in
       subst₂ (λ us M. (carries (frame Γ fn) us E ≡ done M) × Good (frame Γ fn) Ok M) y z (refl, g)
-  entry-enters (all-more {a = q} {l = qs} u us) E g e =
+  entry-enters (each-more {a = q} {l = qs} u us) E g e =
       let (r, p, d) = then-done (projection Γ q E) e in
       let (w, v, c) = then-done (enter-uses Γ qs (r .0)) d in
       let (z, y) = same-parts c in
-      let J = T .projects q E u (g .ok) p in
+      let J = T .projects q E u g p in
       let (k, h) = entry-enters us (r .0) (small-good Γ fn (J .ok) (J .small)) v in
       let s = carries-append (frame Γ fn) (r .1) (w .1) E (carries-same Γ fn (r .1) E ∙ J .carried) in
       subst₂ (λ us M. (carries (frame Γ fn) us E ≡ done M) × Good (frame Γ fn) Ok M) y z (s ∙ k, h)

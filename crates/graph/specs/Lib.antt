@@ -1,25 +1,37 @@
--- What an accepted function record says of its blocks, points and items, and what the passes and the replay of it rest on. In the
--- order in which a reader should meet them:
--- tools: tests, numbers below n, lists collected from a range
-pub mod Tests
--- the blocks as ranges of items; what stands before each item; places; the ender; the whole grammar
+-- What an accepted function record says of its blocks, points and items, and what the passes and the replay of it rest on. It starts from
+-- base's `FunctionFacts`. In the order in which a reader should meet them, each theorem above the file that has it:
+
+-- THE ITEMS
+-- the blocks as ranges of items; the block in which an item lies: holds-owner, owner-holds
 pub mod Ranges
+-- which item may follow which, computed over the table: checked-at
 pub mod Follow
+-- what stands before each item: item-follows, entry-follows; each block is ended at its stop: block-ends
 pub mod Items
+-- where places stand: part-placed, note-reads
 pub mod Places
+-- the ender of a block: block-ender, ender-last, target-last
 pub mod Enders
+-- THE GRAMMAR of document 01 holds: entry-grammar, block-grammar
 pub mod Grammar
--- targets, match and stations of a block; the graph; the points
+-- THE GRAPH
+-- 1. WAYS rests on this: targets name blocks, and a block that is no join point has one incoming target item at most: frame-edges
 pub mod Targets
-pub mod Shapes
+-- a block's run leaves by its targets, and records at its own points: frame-listed, frame-points
 pub mod Points
--- refusal 4 of each place used
+-- every place used has passed refusal 4: stations-used, matched-used, entry-used
 pub mod Used
--- what is asked of the trees; the replay of a block follows its run
+-- THE REPLAY OF A BLOCK
+-- what is asked of the trees: `Trees`
 pub mod Trees
+-- through a block's statements the replay comes where its run did: ran-gone
 pub mod Through
+-- and by each of its targets: exits-depart
 pub mod Departs
--- document 01's replay is that of the solver; the frame is lawful; demand 3
+-- DEMAND 3
+-- document 01's replay is the solver's: replay-same
 pub mod Bridge
+-- the function's frame meets all that the solver asks: frame-lawful
 pub mod Lawful
+-- 5. DEMAND 3 over a function record, given what is asked of the trees: passes-replayed
 pub mod Demand

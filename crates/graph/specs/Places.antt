@@ -7,56 +7,66 @@ use Prim.Native.Nat.{ℕ, zero, suc, _-_, _≤_, _<_}
 use native.Mathlib.Omega.{arith}
 use native.Mathlib.Decide.{decLt}
 use lib.Dec.{eqb, leb}
-use borrow.Author.Tests.{ltb-true, leb-true, eqb-true, eqb-false, lt-ltb, le-leb, eq-eqb, ne-eqb}
+use borrow.Author.Tests.{leb-true, eqb-true, eqb-false, lt-ltb, le-leb, eq-eqb, ne-eqb, ltb-true}
 use Rattle.model.specs.Words.{all}
-use Rattle.model.specs.Function.{nblocks, nitems, start, stop, op, follow-table, may-follow, after}
+use Rattle.model.specs.Function.{nblocks, start, stop, op, follow-table, may-follow, after, nitems}
 use Rattle.model.specs.Block.{root-before, uses-place}
-use Rattle.solver.specs.Base.{split, clash}
-use Rattle.graph.specs.Tests.{and-first, and-second}
-use Rattle.graph.specs.Ranges.{Accepted, Holds, start-stop, stop-next, item-holds}
+use Rattle.base.specs.Tests.{split, clash, and-left, and-right}
+use Rattle.base.specs.Function.{FunctionFacts, stop-next}
+use Rattle.graph.specs.Ranges.{Holds, item-holds}
 use Rattle.graph.specs.Follow.{Checked, checked-at, follow-entry}
-use Rattle.graph.specs.Items.{before-from, before-entry, before-at, before-first, before-next, item-follows, block-ends, entry-follows, entry-ends}
+use Rattle.graph.specs.Items.{before-from, before-at, before-first, before-next, item-follows, block-ends, entry-follows, entry-ends, before-entry}
 
 -- what stands before an item is a place: in the entry part, of a use, read or switch, of a note
 abbrev pub in-place : ℕ → Bool
 in-place k = eqb k 1 || eqb k 3 || eqb k 5
 
+-- there are rows 0 to 8
 row-table : Checked (λ k o. true) (λ k o. leb (after k o) 8)
 unfolding all may-follow follow-table after
 row-table = refl
 
+-- a place is a root, or a place and one element more
 place-table : Checked (λ k o. in-place (after k o)) (λ k o. eqb o 0 || (leb o 4 && in-place k))
 unfolding all may-follow follow-table after
 place-table = refl
 
+-- a root begins a place, any other element stays in it
 root-table : Checked (λ k o. in-place (after k o)) (λ k o. eqb (after k o) (cond (eqb o 0) (suc k) k))
 unfolding all may-follow follow-table after
 root-table = refl
 
+-- a read stands behind a place
 read-table : Checked (λ k o. eqb (after k o) 4) (λ k o. eqb o 6 && in-place k)
 unfolding all may-follow follow-table after
 read-table = refl
 
-element-table : Checked (λ k o. leb o 4) (λ k o. in-place (after k o))
-unfolding all may-follow follow-table after
-element-table = refl
-
+-- so do a use and a note
 action-table : Checked (λ k o. leb 5 o && leb o 7) (λ k o. in-place k)
 unfolding all may-follow follow-table after
 action-table = refl
 
-note-table : Checked (λ k o. eqb o 7) (λ k o. eqb k 5)
+-- behind an element stands a place
+element-table : Checked (λ k o. leb o 4) (λ k o. in-place (after k o))
 unfolding all may-follow follow-table after
-note-table = refl
+element-table = refl
 
+-- in the entry part stand places and uses alone
 entry-table : Checked (λ k o. leb k 1) (λ k o. leb o 5)
 unfolding all may-follow follow-table after
 entry-table = refl
 
+-- a note's place is the second of the two
+note-table : Checked (λ k o. eqb o 7) (λ k o. eqb k 5)
+unfolding all may-follow follow-table after
+note-table = refl
+
+-- the entry part ends with a use
 over-table : Checked (λ k o. eqb (after k o) 0) (λ k o. eqb o 5 || leb 10 o)
 unfolding all may-follow follow-table after
 over-table = refl
 
+-- a block ends with a target, a return or a stop
 end-table : Checked (λ k o. eqb (after k o) 8) (λ k o. eqb o 5 || leb 10 o)
 unfolding all may-follow follow-table after
 end-table = refl
@@ -76,12 +86,14 @@ pub record Reads (fn : List ℕ) (b i : ℕ) : Type 0 where
   pub placed : Placed fn (start fn b) (root-before fn i - 1)
 
 module _ {fn : List ℕ} {s : ℕ} where
+  -- a root is a place
   placed-root : {i : ℕ} → s ≤ i → op fn i ≡ 0 → Placed fn s (suc i)
   unfolding root-before
   placed-root {i} l e =
       let q : root-before fn (suc i) ≡ i = cc (eq-eqb (op fn i) 0 e) in
       record { low = omega arith; high = omega arith; root = cc; elements = λ x m n. absurd (omega arith) }
 
+  -- one element more
   placed-more : {i : ℕ} → Placed fn s i → 1 ≤ op fn i → op fn i ≤ 4 → Placed fn s (suc i)
   unfolding root-before
   placed-more {i} H l m =
@@ -100,13 +112,15 @@ module _ {fn : List ℕ} {s : ℕ} where
     | no l ↦ let q : i - 1 ≡ root-before fn i = omega (arith, H .high) in rw q (omega (arith, H .root))
   ]
 
+  -- an item behind a place uses it
   placed-uses : {i : ℕ} → Placed fn s i → 5 ≤ op fn i → op fn i ≤ 8 → uses-place fn i ≡ true
   unfolding uses-place
   placed-uses {i} H l m = cc (le-leb 5 (op fn i) l, le-leb (op fn i) 8 m, lt-ltb 0 i (omega (arith, H .high)), le-leb (op fn (i - 1)) 4 (placed-before H))
 
+-- before an item that uses a place stands an element
 uses-back : (fn : List ℕ) (i : ℕ) → uses-place fn i ≡ true → (0 < i) × (op fn (i - 1) ≤ 4)
 unfolding uses-place
-uses-back fn i e = (ltb-true 0 i (search (and-first, and-second)), leb-true (op fn (i - 1)) 4 (search (and-first, and-second)))
+uses-back fn i e = (ltb-true 0 i (search (and-left, and-right)), leb-true (op fn (i - 1)) 4 (search (and-left, and-right)))
 
 -- items that follow one another as the table has it, from s up to t
 pub record Part (fn : List ℕ) (first s t : ℕ) : Type 0 where
@@ -115,6 +129,7 @@ pub record Part (fn : List ℕ) (first s t : ℕ) : Type 0 where
   pub follows : (i : ℕ) → s ≤ i → i < t → may-follow (before-from fn first s i) (op fn i) ≡ true
 
 module _ {fn : List ℕ} {first s t : ℕ} (P : Part fn first s t) where
+  -- each row is one of the table's
   part-code : (i : ℕ) → i ≤ t → before-from fn first s i ≤ 8
   part-code zero l = rw (before-first fn first s zero (omega arith)) (omega (arith, P .low))
   part-code (suc i) l = elim (decLt i s) [
@@ -143,7 +158,7 @@ module _ {fn : List ℕ} {first s t : ℕ} (P : Part fn first s t) where
         (λ z.
         let v : leb (op fn i) 4 && in-place (before-from fn first s i) ≡ true = rw z at c in
         let w : 0 < op fn i = omega (arith, eqb-false (op fn i) 0 z) in
-        placed-more (part-placed i (omega arith) (search and-second)) w (leb-true (op fn i) 4 (search and-first)))
+        placed-more (part-placed i (omega arith) (search and-right)) w (leb-true (op fn i) 4 (search and-left)))
   ]
 
   -- the root's row is the one before the place's
@@ -163,7 +178,7 @@ module _ {fn : List ℕ} {first s t : ℕ} (P : Part fn first s t) where
         (λ z. rw (z, root-before) (rw z at r))
         (λ z.
         let v : leb (op fn i) 4 && in-place k ≡ true = rw z at c in
-        rw (z, root-before) ((rw z at r) ∙ part-root i (omega arith) (search and-second)))
+        rw (z, root-before) ((rw z at r) ∙ part-root i (omega arith) (search and-right)))
   ]
 
   -- behind an item of a place stands a place
@@ -187,11 +202,11 @@ module _ {fn : List ℕ} {first s t : ℕ} (P : Part fn first s t) where
   part-read i m e = elim (decLt s i) [
     | yes l ↦
         let c = part-back (λ k. eqb k 4) (λ k o. eqb o 6 && in-place k) read-table i l m (eq-eqb (before-from fn first s i) 4 e) in
-        (l, eqb-true (op fn (i - 1)) 6 (search and-first), part-placed (i - 1) (omega arith) (search and-second))
+        (l, eqb-true (op fn (i - 1)) 6 (search and-left), part-placed (i - 1) (omega arith) (search and-right))
     | no l ↦ absurd (omega (arith, P .low, before-first fn first s i (omega arith)))
   ]
 
-module _ {fn : List ℕ} (A : Accepted fn) where
+module _ {fn : List ℕ} (A : FunctionFacts fn) where
   -- A BLOCK'S ITEMS AND THE ENTRY'S
 
   -- a block's items
@@ -206,9 +221,10 @@ module _ {fn : List ℕ} (A : Accepted fn) where
   pub start-behind : {b : ℕ} → b < nblocks fn → 0 < start fn b → eqb (op fn (start fn b - 1)) 5 || leb 10 (op fn (start fn b - 1)) ≡ true
   start-behind {b = zero} l m = part-back entry-part (λ k. eqb k 0) (λ k o. eqb o 5 || leb 10 o) over-table (start fn 0) m (omega arith) (eq-eqb _ 0 (entry-ends A))
   start-behind {b = suc b} l m =
-      rw (← stop-next A l) (part-back (block-part {b = b} (omega arith)) (λ k. eqb k 8) (λ k o. eqb o 5 || leb 10 o) end-table (stop fn b)
-      (start-stop A {b = b} (omega arith)) (omega arith) (eq-eqb _ 8 (block-ends A {b = b} (omega arith))))
+      rw (← stop-next A b l) (part-back (block-part {b = b} (omega arith)) (λ k. eqb k 8) (λ k o. eqb o 5 || leb 10 o) end-table (stop fn b)
+      (A .starts b (omega arith)) (omega arith) (eq-eqb _ 8 (block-ends A {b = b} (omega arith))))
 
+  -- so no item of a place stands there
   start-fresh : {b : ℕ} → b < nblocks fn → 0 < start fn b → 5 ≤ op fn (start fn b - 1)
   start-fresh {b} l m =
       let o = op fn (start fn b - 1) in
@@ -248,6 +264,8 @@ module _ {fn : List ℕ} (A : Accepted fn) where
       record { holds = record { block = h .block; low = omega arith; high = omega arith }; next = omega arith; code = v; placed = w }
 
   -- THE ENTRY PART: items of places, and uses
+
+  -- its rows
   entry-row : (i : ℕ) → i ≤ start fn 0 → before-entry fn i ≤ 1
   entry-row zero l = rw (before-first fn 0 0 zero (omega arith)) (omega arith)
   entry-row (suc i) l = rw (before-next fn 0 0 i (omega arith)) (follow-entry (before-entry fn i) (op fn i) (entry-row i (omega arith)) (entry-follows A l))
@@ -257,13 +275,7 @@ module _ {fn : List ℕ} (A : Accepted fn) where
   entry-op {i} l = leb-true (op fn i) 5
       (part-says entry-part (λ k o. leb k 1) (λ k o. leb o 5) entry-table i (omega arith) l (le-leb (before-entry fn i) 1 (entry-row i (omega arith))))
 
-  -- a use has a place
-  pub entry-uses-place : {i : ℕ} → i < start fn 0 → op fn i ≡ 5 → uses-place fn i ≡ true
-  entry-uses-place {i} l e =
-      let c = part-says entry-part (λ k o. leb 5 o && leb o 7) (λ k o. in-place k) action-table i (omega arith) l (rw e refl) in
-      placed-uses (part-placed entry-part i (omega arith) c) (omega arith) (omega arith)
-
-  -- which stands in the entry part
+  -- a place used there stands there
   pub entry-placed : {i : ℕ} → i < start fn 0 → uses-place fn i ≡ true → Placed fn 0 i
   entry-placed {i} l e = let (m, n) = uses-back fn i e in part-placed entry-part i (omega arith) (part-place entry-part i m (omega arith) n)
 

@@ -16,11 +16,14 @@ use Rattle.model.specs.Function.{nblocks, start, stop, op}
 use Rattle.model.specs.Block.{Station, is-station, station, stations, targets, returns, matched}
 use Rattle.model.specs.Frame.{Line, mark, Exit, Work, target}
 use Rattle.model.specs.Body.{use-at, pass-stations, Left, variants, choice, open-variant, match-targets, exits-of, ret-lines, body, frame}
-use Rattle.solver.specs.Base.{split, then-done, clash, All, all-none, all-more, all-append, all-map}
+use Rattle.base.specs.Tests.{split, clash}
+use Rattle.base.specs.Answer.{then-done}
+use Rattle.base.specs.Each.{Each, each-none, each-more, each-append, each-same}
+use Rattle.base.specs.Collected.{collect-each}
+use Rattle.base.specs.Function.{FunctionFacts}
+use Rattle.solver.specs.Lines.{each-mark}
 use Rattle.solver.specs.Laws.{Inside, Points}
-use Rattle.solver.specs.Lines.{all-mark}
-use Rattle.graph.specs.Tests.{collect-all}
-use Rattle.graph.specs.Ranges.{Accepted, Holds, owner, holds-owner, entry-alone}
+use Rattle.graph.specs.Ranges.{Holds, owner, holds-owner, entry-alone}
 use Rattle.graph.specs.Enders.{last-holds}
 use Rattle.graph.specs.Targets.{target-aims, targets-once}
 
@@ -80,24 +83,24 @@ module _ (Γ fn : List ℕ) where
   -- THE LINES
 
   -- a place used at a point records there
-  pub use-points : (P : ℕ → Type 0) (i : ℕ) (u : Option Spot) (E : Forest) {r : Forest × List (Line At)} → P i → use-at Γ i u E ≡ done r → All (λ l. P (l .point)) (r .1)
+  pub use-points : (P : ℕ → Type 0) (i : ℕ) (u : Option Spot) (E : Forest) {r : Forest × List (Line At)} → P i → use-at Γ i u E ≡ done r → Each (λ l. P (l .point)) (r .1)
   unfolding use-at
-  use-points P i none E {r} p e = let z : (E, []) ≡ r = cc in rw (← z) all-none
+  use-points P i none E {r} p e = let z : (E, []) ≡ r = cc in rw (← z) each-none
   use-points P i (some q) E {r} p e =
       let (s, u, d) = then-done (projection Γ q E) e in
       let z : (s .0, mark i (s .1)) ≡ r = cc in
-      rw (← z) (all-mark i (s .1) (λ t. p))
+      rw (← z) (each-mark i (s .1) (λ t. p))
 
   -- so do the stations
-  pub pass-points : (P : ℕ → Type 0) {ss : List Station} → All (λ s. P (s .point)) ss → (E : Forest) {r : Forest × List (Line At)}
-      → pass-stations Γ ss E ≡ done r → All (λ l. P (l .point)) (r .1)
+  pub pass-points : (P : ℕ → Type 0) {ss : List Station} → Each (λ s. P (s .point)) ss → (E : Forest) {r : Forest × List (Line At)}
+      → pass-stations Γ ss E ≡ done r → Each (λ l. P (l .point)) (r .1)
   unfolding pass-stations
-  pass-points P all-none E {r} e = let z : (E, []) ≡ r = cc in rw (← z) all-none
-  pass-points P (all-more {a = s} {l = ss} p ps) E {r} e =
+  pass-points P each-none E {r} e = let z : (E, []) ≡ r = cc in rw (← z) each-none
+  pass-points P (each-more {a = s} {l = ss} p ps) E {r} e =
       let (a, u, d) = then-done (use-at Γ (s .point) (s .used) E) e in
       let (w, v, c) = then-done (pass-stations Γ ss (a .0)) d in
       let z : (w .0, a .1 ++ w .1) ≡ r = cc in
-      rw (← z) (all-append (use-points P (s .point) (s .used) E p u) (pass-points P ps (a .0) v))
+      rw (← z) (each-append (use-points P (s .point) (s .used) E p u) (pass-points P ps (a .0) v))
 
 -- a point of the block b that is no target item
 pub record Rests (fn : List ℕ) (b i : ℕ) : Type 0 where
@@ -105,20 +108,20 @@ pub record Rests (fn : List ℕ) (b i : ℕ) : Type 0 where
   pub code : op fn i ≢ 10
 
 -- each station of a block is one
-pub stations-rest : (fn : List ℕ) (b : ℕ) → b < nblocks fn → All (λ s. Rests fn b (s .point)) (stations fn b)
+pub stations-rest : (fn : List ℕ) (b : ℕ) → b < nblocks fn → Each (λ s. Rests fn b (s .point)) (stations fn b)
 unfolding stations station is-station
-stations-rest fn b l = collect-all (is-station fn) (station fn) (stop fn b - start fn b) (start fn b) (λ i m n e.
+stations-rest fn b l = collect-each (is-station fn) (station fn) (stop fn b - start fn b) (start fn b) (λ i m n e.
     record { holds = record { block = l; low = m; high = omega arith }; code = λ q. clash (cc) })
 
-module _ {fn : List ℕ} (A : Accepted fn) (Γ : List ℕ) where
+module _ {fn : List ℕ} (A : FunctionFacts fn) (Γ : List ℕ) where
   -- what a block's run records stands at such points
-  pub ran-rests : {b : ℕ} {E : Forest} {w : Work Forest At} → Ran Γ fn b E w → All (λ l. Rests fn b (l .point)) (w .lines)
+  pub ran-rests : {b : ℕ} {E : Forest} {w : Work Forest At} → Ran Γ fn b E w → Each (λ l. Rests fn b (l .point)) (w .lines)
   unfolding ret-lines returns
-  ran-rests {b} {E} {w} R = rw (R .lines) (all-append
+  ran-rests {b} {E} {w} R = rw (R .lines) (each-append
       (pass-points Γ fn (Rests fn b) (stations-rest fn b (R .block)) E (R .passed))
       (split (returns fn b)
-      (λ e. rw (e, ret-lines) (all-mark (stop fn b - 1) _ (λ t. record { holds = last-holds A (R .block); code = λ q. clash (cc) })))
-      (λ e. rw (e, ret-lines) all-none)))
+      (λ e. rw (e, ret-lines) (each-mark (stop fn b - 1) _ (λ t. record { holds = last-holds A (R .block); code = λ q. clash (cc) })))
+      (λ e. rw (e, ret-lines) each-none)))
 
   -- it is inside its block
   pub rests-inside : {b i : ℕ} → Rests fn b i → Inside (frame Γ fn) (owner fn) b i
@@ -135,5 +138,5 @@ module _ {fn : List ℕ} (A : Accepted fn) (Γ : List ℕ) where
     owned = λ {b} h. holds-owner A ((target-aims fn b h) .holds);
     once = λ b. targets-once fn b;
     alone = λ b l. entry-alone A b l;
-    inside = λ {b} {E} {w} e. all-map (λ l r. rests-inside r) (ran-rests (body-ran Γ fn e));
+    inside = λ {b} {E} {w} e. each-same (λ l r. rests-inside r) (ran-rests (body-ran Γ fn e));
   }

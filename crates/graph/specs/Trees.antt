@@ -35,8 +35,8 @@ pub record Opened (Γ : List ℕ) (Ok : Forest → Type 0) (q : Spot) (v : ℕ) 
 
 -- all that is asked
 pub record Trees (Γ fn : List ℕ) (Ok : Forest → Type 0) : Type 0 where
-  pub projects : (q : Spot) (E : Forest) {D : Forest} {ts : List At} → used-ok (nlocals fn) q ≡ true → Ok E
+  pub projects : (q : Spot) (E : Forest) {D : Forest} {ts : List At} → used-ok (nlocals fn) q ≡ true → Good (frame Γ fn) Ok E
       → projection Γ q E ≡ done (D, ts) → Projected Γ Ok q E D ts
-  pub opens : (q : Spot) (v : ℕ) (E : Forest) {D : Forest} → used-ok (nlocals fn) q ≡ true → Ok E
+  pub opens : (q : Spot) (v : ℕ) (E : Forest) {D : Forest} → used-ok (nlocals fn) q ≡ true → Good (frame Γ fn) Ok E
       → downcasting Γ q v E ≡ done D → Opened Γ Ok q v E D
   pub returns : {E : Forest} → Ok E → (D : Forest) × (carries-at Γ (folds-at-ret Γ (nargs fn) E) E ≡ done D)

@@ -12,7 +12,8 @@ use Rattle.model.specs.Walk.{carries-at}
 use Rattle.model.specs.Collect.{collects, unfoldss}
 use Rattle.base.specs.Answer.{good-at, accepted-value}
 use Rattle.laws.specs.Typing.{fits-join}
-use Rattle.laws.specs.Order.{above-second, states}
+use Rattle.base.specs.Order.{above-second}
+use Rattle.laws.specs.Order.{states}
 use Rattle.laws.specs.Sound.{Sound}
 use Rattle.laws.specs.Collected.{collects-carry, unfoldss-carry}
 use Rattle.laws.specs.Above.{collects-above}

@@ -12,7 +12,8 @@ use Rattle.model.specs.Typing.{Fit, Fits, fit-leaf, fit-node, fit-none, fit-mor
 use Rattle.base.specs.Tests.{split, eqb-sym, or-left, or-right, passes-exactly}
 use Rattle.laws.specs.Typing.{recast, fit-join, fits-join}
 use Rattle.laws.specs.Join.{join-self, join-comm, joins-comm, joins-self}
-use Rattle.laws.specs.Order.{above-second, trees, states}
+use Rattle.base.specs.Order.{above-second}
+use Rattle.laws.specs.Order.{trees, states}
 
 module _ (Γ : List ℕ) where
   -- a tree that meets a folded one: where its flag is false, to settle it is nothing

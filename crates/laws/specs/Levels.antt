@@ -58,7 +58,7 @@ module _ (Γ : List ℕ) where
 
   -- what a statement does at the place
   act-levels : (w : Verb) (p : Place) → Within w p → Deep levels (walk Γ (act Γ w) p)
-  act-levels Fold p h = deep-more (walk Γ folding p) (omega arith) (walk-deep Γ 0 folding folding-deep p (λ e. absurd (clash (h .1) e)))
+  act-levels Fold p h = deep-more (walk Γ folding p) (omega arith) (walk-deep Γ 0 folding folding-deep p (λ e. clash (cc (h .1))))
   act-levels Unfold p h = deep-more (walk Γ (opening Γ) p) (omega arith) (walk-deep Γ 1 (opening Γ) opening-deep p (λ e. omega arith))
 
   -- a statement

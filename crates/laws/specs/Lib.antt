@@ -14,8 +14,8 @@ pub mod Sizes
 pub mod Join
 -- what the source's own recursion leaves in both trees is one tree, the join: first-join, second-join; firsts-joins, seconds-joins
 pub mod Source
--- 2. ORDER: `Above` is a preorder (above-refl, above-trans), a join is above both its sides (above-first, above-second), and what is
--- absorbed stays absorbed (above-join); at `trees Γ m t` and at `states Γ m ts`
+-- 2. ORDER: `Above` of base's Order is a preorder (above-refl, above-trans), a join is above both its sides (above-first, above-second),
+-- and what is absorbed stays absorbed (above-join); at `trees Γ m t` and at `states Γ m ts`
 pub mod Order
 -- 1. again: each flag is true exactly if its tree has changed (flag1-changed, flag2-changed; flags1-changed, flags2-changed), and a
 -- second join changes neither tree, with both flags false (flags-still, flagss-still)

@@ -37,14 +37,14 @@ module _ (Γ : List ℕ) where
 
   -- a walk that changes something makes a step
   pub changed-goes : (p : Place) (s : Tree) → changed Γ p s ≡ true → stops p ≡ false
-  changed-goes p s e = split (stops p) (λ d. absurd (clash e (still-stopped p s d))) (λ d. d)
+  changed-goes p s e = split (stops p) (λ d. clash (cc (still-stopped p s d))) (λ d. d)
 
   -- to unfold, where the walk has changed something
   based-changed : (p : Place) (s : Tree) → usable p ≡ true → Good (λ u. changed Γ p s ≡ true
       → walk Γ (opening Γ) (base p) s ≡ done u) (walk Γ done p s)
   based-changed p s h = split (changed Γ p s)
       (λ e. good-same (λ u c d. c) (base-walk Γ p s h (changed-goes p s e)))
-      (λ e. good-same (λ u c d. absurd (clash d e)) (good-self (walk Γ done p s)))
+      (λ e. good-same (λ u c d. clash (cc)) (good-self (walk Γ done p s)))
 
   -- the statement recorded, carried out on the tree before, gives the tree after
   pub project-carry : (p : Place) (s : Tree) → usable p ≡ true

@@ -23,10 +23,24 @@ pub data Only (p : ℕ → Bool) {A : Type 0} : Answer A → Type 0 where
   only-refused : {n : ℕ} → p n ≡ true → Only p (refused n)
   only-done : {a : A} → Only p (done a)
 
--- through a step
-only-bind : {p : ℕ → Bool} {A B : Type 0} {a : Answer A} {f : A → Answer B} → Only p a → ((x : A) → Only p (f x)) → Only p (a >>= f)
-only-bind (only-refused e) h = only-refused e
-only-bind (only-done {a}) h = h a
+-- through a step, whose value is the answer's
+pub only-then : {p : ℕ → Bool} {A B : Type 0} {a : Answer A} {f : A → Answer B} → Only p a → ((x : A) → a ≡ done x → Only p (f x)) → Only p (a >>= f)
+only-then (only-refused e) h = only-refused e
+only-then (only-done {a}) h = h a refl
+
+-- through a step, whatever its value
+pub only-bind : {p : ℕ → Bool} {A B : Type 0} {a : Answer A} {f : A → Answer B} → Only p a → ((x : A) → Only p (f x)) → Only p (a >>= f)
+only-bind o h = only-then o (λ x e. h x)
+
+-- through a demand
+only-require : (p : ℕ → Bool) {A : Type 0} (b : Bool) (r : ℕ) (f : Unit {0} → Answer A) → p r ≡ true → Only p (f tt) → Only p (require b r f)
+only-require p true r f e o = o
+only-require p false r f e o = only-refused e
+
+-- a consequence
+pub only-same : {p q : ℕ → Bool} {A : Type 0} {a : Answer A} → ((n : ℕ) → p n ≡ true → q n ≡ true) → Only p a → Only q a
+only-same h (only-refused {n} e) = only-refused (h n e)
+only-same h only-done = only-done
 
 -- of a refusal
 only-value : {p : ℕ → Bool} {A : Type 0} {n : ℕ} → Only p {A = A} (refused n) → p n ≡ true
@@ -35,6 +49,11 @@ only-value (only-refused e) = e
 -- in the form of a user
 pub only-at : {p : ℕ → Bool} {A : Type 0} {a : Answer A} {n : ℕ} → Only p a → a ≡ refused n → p n ≡ true
 only-at {p} {A} o e = only-value {A = A} (subst (Only p) e o)
+
+-- and back
+pub only-of : {p : ℕ → Bool} {A : Type 0} (a : Answer A) → ((n : ℕ) → a ≡ refused n → p n ≡ true) → Only p a
+only-of (refused n) h = only-refused (h n refl)
+only-of (done x) h = only-done
 
 module _ (p : ℕ → Bool) (five : p 5 ≡ true) where
   -- one tree of several
@@ -123,11 +142,7 @@ module _ (Γ : List ℕ) where
   -- in a run
   fitting-only : (E : Forest) → Only running (fitting Γ E)
   unfolding fitting
-  fitting-only E = require-only (leb (sizes E) most)
-    where
-      require-only : (b : Bool) → Only running (require b 9 (λ _. done E))
-      require-only true = only-done
-      require-only false = only-refused refl
+  fitting-only E = only-require running (leb (sizes E) most) 9 (λ _. done E) refl only-done
 
   -- a place used
   pub projection-refusals : (q : Spot) {ts : List ℕ} {E : Forest} → Fits Γ ts E → q .local < length ts → Only running (projection Γ q E)
@@ -154,6 +169,13 @@ module _ (Γ : List ℕ) where
       let t = type (reached Γ (q .place) (pick (q .local) E)) in
       good-bind (good-self (nth (q .local) (walk Γ done (q .place)) E)) (λ D e.
       good-require _ (eqb (kind Γ t) 7) 5 (λ _. done t) (λ d. good-done (eqb-true (kind Γ t) 7 d)))
+
+  -- and the refusals of looking for it
+  pub enum-refusals : (q : Spot) (E : Forest) → Only walking (enum-at Γ q E)
+  unfolding enum-at
+  enum-refusals q E =
+      let t = type (reached Γ (q .place) (pick (q .local) E)) in
+      only-bind (nth-only walking refl (walk-refusals (q .place)) (q .local) E) (λ D. only-require walking (eqb (kind Γ t) 7) 5 (λ _. done t) refl only-done)
 
   -- to open
   opening-only : (s : Tree) → Only carrying (opening Γ s)

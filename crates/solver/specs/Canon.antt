@@ -7,10 +7,12 @@ use mathlib.Core.Option.{Option, some}
 use Prim.Native.Nat.{ℕ}
 use Rattle.model.specs.Answer.{done}
 use Rattle.model.specs.Frame.{Exit, Work, Frame, target, visit, opening-exit, opening}
-use Rattle.solver.specs.Base.{clash, Has, here, later, has-map, elem-has, Once, once-head, once-tail}
+use Rattle.base.specs.Tests.{clash}
+use Rattle.solver.specs.Lists.{Has, here, later, has-map, elem-has, Once, once-head, once-tail}
 use Rattle.solver.specs.Laws.{Bodies, Edges, Points}
 use Rattle.solver.specs.Outcome.{Calm, calm-inner, Through, goto-calm-on, work-calm}
-use Rattle.solver.specs.Solution.{exit-listed, Covered, Solution}
+use Rattle.solver.specs.Arrivals.{exit-listed}
+use Rattle.solver.specs.Solution.{Covered, Solution}
 use Rattle.solver.specs.Fuel.{root-join, root-start, Rooted, rooted, rooted-on, visit-step}
 
 -- E₀: the state that the entry's uses leave
@@ -63,6 +65,7 @@ module _ {Env Stmt : Type 0} (F : Frame Env Stmt) {Ok : Env → Type 0} (B : Bod
     at-rooted (at-start j p q) = rw p (rooted root-start)
     at-rooted (at-on A e h k) = rooted-on (at-rooted A) (exit-listed B e h) k
 
+    -- where a visit is calm, the block's own run is accepted and its jumps are calm
     calm-through : {b : ℕ} {E : Env} → Rooted F b → Calm (Covered F Ok kept) (visit F b E) → Through F (Covered F Ok kept) (visit F) (F .body b E)
     calm-through {b} {E} R k = work-calm F (visit F) (F .body b E) (calm-inner (rw (visit-step F B G E R) at k))
 

@@ -11,11 +11,14 @@ use Rattle.model.specs.Answer.{Answer, refused, done}
 use Rattle.model.specs.Rounds.{Round, idle, broke, turned, lowest}
 use Rattle.model.specs.Frame.{Exit, Frame, Outcome, over, stop, into, say, meet, visit, opening}
 use Rattle.model.specs.Passes.{absorb, Store, empty, unwait, merge, arrive, take-in, round, load}
-use Rattle.solver.specs.Base.{split, option, answer, clash, put-same}
+use Rattle.base.specs.Tests.{split, split-option, clash}
+use Rattle.base.specs.Answer.{split-answer}
+use Rattle.solver.specs.Lists.{put-same}
 use Rattle.solver.specs.Loop.{rounds}
 use Rattle.solver.specs.Laws.{Good, Lattice, Bodies, Edges}
-use Rattle.solver.specs.Outcome.{Each, each-over, each-stop, each-into, each-say, each-meet}
-use Rattle.solver.specs.Termination.{Sound, Fair, visit-each, opening-each, arrive-law, unwait-sound, solve-falls}
+use Rattle.solver.specs.Outcome.{Every, every-over, every-stop, every-into, every-say, every-meet}
+use Rattle.solver.specs.Arrivals.{Fair, visit-fair, opening-fair}
+use Rattle.solver.specs.Termination.{Sound, arrive-law, unwait-sound, solve-falls}
 use Rattle.solver.specs.Solution.{arrive-other, empty-sound, partial-opens}
 
 -- THE COUNT
@@ -71,6 +74,7 @@ module _ {Env Stmt : Type 0} (F : Frame Env Stmt) (Ok : Env → Type 0) (L : Lat
   slack none = F .top
   slack (some S) = F .cost S
 
+  -- how often what a store has at b can still change
   abbrev left-at : Store Env → ℕ
   left-at s = slack (s .kept b)
 
@@ -80,7 +84,7 @@ module _ {Env Stmt : Type 0} (F : Frame Env Stmt) (Ok : Env → Type 0) (L : Lat
   arrive-slack s t x H g e = split (eqb (x .block) b)
       (λ d.
       let z = eqb-true (x .block) b d in
-      option (s .kept b)
+      split-option (s .kept b)
       (λ p.
       let k : t .kept b ≡ some (x .state) = cc (put-same (s .kept) b (some (x .state))) in
       rw (d, alters, p, k) (omega (arith, L .bounded g)))
@@ -99,13 +103,13 @@ module _ {Env Stmt : Type 0} (F : Frame Env Stmt) (Ok : Env → Type 0) (L : Lat
       (λ d. rw (d, alters, arrive-other F s t x b d e) (omega arith))
 
   -- what is counted in an outcome, and what is left behind it, are no more than what was left before
-  take-slack : (s : Store Env) {o : Outcome Env Stmt} → Sound F Ok s → Each (Fair F Ok) o → changes-in F b o s + if-done left-at (take-in F o s) ≤ left-at s
+  take-slack : (s : Store Env) {o : Outcome Env Stmt} → Sound F Ok s → Every (Fair F Ok) o → changes-in F b o s + if-done left-at (take-in F o s) ≤ left-at s
   unfolding changes-in take-in absorb if-done
-  take-slack s H each-over = omega arith
-  take-slack s H each-stop = omega arith
-  take-slack s H (each-into h) = take-slack s H h
-  take-slack s H (each-say h) = take-slack s H h
-  take-slack s H (each-meet {x} {o} f h) = answer (arrive F x s)
+  take-slack s H every-over = omega arith
+  take-slack s H every-stop = omega arith
+  take-slack s H (every-into h) = take-slack s H h
+  take-slack s H (every-say h) = take-slack s H h
+  take-slack s H (every-meet {x} {o} f h) = split-answer (arrive F x s)
       (λ r e. rw e (omega arith))
       (λ t e.
       let k = arrive-slack s t x H (f .good) e in
@@ -113,25 +117,27 @@ module _ {Env Stmt : Type 0} (F : Frame Env Stmt) (Ok : Env → Type 0) (L : Lat
       rw e (omega arith))
 
   module _ (B : Bodies F Ok) (G : Edges F) where
+    -- what is counted in a round, and what is left behind it, are no more than what was left before
     round-slack : (s : Store Env) → Sound F Ok s → changes-round F b s + if-turned left-at (round F s) ≤ left-at s
     unfolding changes-round round if-turned if-done
-    round-slack s H = option (lowest (F .rank) (s .waits) (F .blocks))
+    round-slack s H = split-option (lowest (F .rank) (s .waits) (F .blocks))
         (λ p.
         let u : changes-round F b s ≡ 0 = cc in
         let v : if-turned left-at (round F s) ≡ 0 = cc in
         omega arith)
-        (λ c p. option (s .kept c)
+        (λ c p. split-option (s .kept c)
         (λ q.
         let u : changes-round F b s ≡ 0 = cc in
         let v : if-turned left-at (round F s) ≡ 0 = cc in
         omega arith)
         (λ S q.
         let o = visit F c S in
-        let k = take-slack (unwait c s) (unwait-sound F Ok L c H) (visit-each F Ok B G c S (H .fine c S q)) in
+        let k = take-slack (unwait c s) (unwait-sound F Ok L c H) (visit-fair F Ok B G c S (H .fine c S q)) in
         let u : changes-round F b s ≡ changes-in F b o (unwait c s) = cc in
-        let v : if-turned left-at (round F s) ≡ if-done left-at (take-in F o (unwait c s)) = answer (take-in F o (unwait c s)) (λ r e. cc) (λ t e. cc) in
+        let v : if-turned left-at (round F s) ≡ if-done left-at (take-in F o (unwait c s)) = split-answer (take-in F o (unwait c s)) (λ r e. cc) (λ t e. cc) in
         omega arith))
 
+    -- so in any number of rounds
     loop-slack : (n : ℕ) (s : Store Env) → Sound F Ok s → changes-loop F b n s ≤ left-at s
     unfolding changes-loop if-turned
     loop-slack zero s H = omega arith
@@ -146,8 +152,8 @@ module _ {Env Stmt : Type 0} (F : Frame Env Stmt) (Ok : Env → Type 0) (L : Lat
     pub changes-ceiling : {E : Env} → Good F Ok E → changes F b E ≤ F .top
     unfolding changes changes-from slack if-done
     changes-ceiling {E} g =
-        let k = take-slack empty (empty-sound F Ok L B G) (opening-each F Ok B G E g) in
-        answer (take-in F (opening F E) empty)
+        let k = take-slack empty (empty-sound F Ok L B G) (opening-fair F Ok B G E g) in
+        split-answer (take-in F (opening F E) empty)
         (λ r e. rw e (omega (arith, rw e at k)))
         (λ s e. rw e (omega (arith, rw e at k, loop-slack (suc (load F s)) s ((partial-opens F Ok L B G g e) .sound))))
 

@@ -9,12 +9,14 @@ use lib.Dec.{eqb}
 use borrow.Author.Tests.{eqb-true}
 use Rattle.model.specs.Answer.{Answer, refused, done}
 use Rattle.model.specs.Frame.{Line, Exit, Work, Frame, target, Outcome, over, stop, into, say, meet, next, says, goto, leave, work, enter, mark}
-use Rattle.solver.specs.Base.{split, clash, eqb-same, Has, here, later, has-map, All, all-none, all-more, all-of, all-append, elem-has, Once, once-head, once-tail}
-use Rattle.solver.specs.Lines.{all-mark}
+use Rattle.base.specs.Tests.{split, clash, eqb-same}
+use Rattle.base.specs.Each.{Each, each-none, each-more, each-append}
+use Rattle.solver.specs.Lists.{Has, here, later, has-map, each-of, elem-has, Once, once-head, once-tail}
+use Rattle.solver.specs.Lines.{each-mark}
 use Rattle.solver.specs.Laws.{Bodies, Edges, Points}
 use Rattle.solver.specs.Outcome.{Calm, calm-over, calm-into, calm-say, calm-meet, stop-calm, calm-inner, calm-next, calm-says, goto-calm-on}
-use Rattle.solver.specs.Solution.{exit-listed}
-use Rattle.solver.specs.Elaborate.{gives, tell}
+use Rattle.solver.specs.Arrivals.{exit-listed}
+use Rattle.solver.specs.Told.{gives, tell}
 
 -- 1 for true
 abbrev pub bit : Bool → ℕ
@@ -73,6 +75,7 @@ named-one x i (t ∷ ts) o (later h) f = split (eqb x (t .1))
 module _ {Env Stmt : Type 0} (F : Frame Env Stmt) {Ok : Env → Type 0} (B : Bodies F Ok) (P : Exit Env → Type 0) (x : ℕ) where
   -- 1. no edge enters x (a join point, or a start block that is none): x is entered where a visit begins with it
   module _ (lone : (b i : ℕ) → Has (i, x) (F .targets b) → F .join-point x ≡ false → ⊥) where
+    -- a jump does not enter x
     goto-lone : (go : ℕ → Env → Outcome Env Stmt) → ((c : ℕ) (D : Env) → Calm P (go c D) → count x (go c D) ≡ bit (eqb x c))
         → (b : ℕ) (y : Exit Env) → Has (target y) (F .targets b) → Calm P (goto F go y) → count x (goto F go y) ≡ 0
     unfolding goto count
@@ -84,20 +87,22 @@ module _ {Env Stmt : Type 0} (F : Frame Env Stmt) {Ok : Env → Type 0} (B : Bod
         (λ d. let z = eqb-true x (y .block) d in absurd (lone b (y .item) (rw z h) (rw z e)))
         (λ d. cc))
 
+    -- nor do all jumps of a block
     leave-lone : (go : ℕ → Env → Outcome Env Stmt) → ((c : ℕ) (D : Env) → Calm P (go c D) → count x (go c D) ≡ bit (eqb x c))
-        → {b : ℕ} {ys : List (Exit Env)} → All (λ y. Has (target y) (F .targets b)) ys → Calm P (leave F go ys) → count x (leave F go ys) ≡ 0
+        → {b : ℕ} {ys : List (Exit Env)} → Each (λ y. Has (target y) (F .targets b)) ys → Calm P (leave F go ys) → count x (leave F go ys) ≡ 0
     unfolding leave count
-    leave-lone go f all-none k = refl
-    leave-lone go f {b} (all-more {a = y} {l = ys} h hs) k =
+    leave-lone go f each-none k = refl
+    leave-lone go f {b} (each-more {a = y} {l = ys} h hs) k =
         let (m, n) = calm-next (goto F go y) k in
         omega (arith, count-next x (leave F go ys) m, goto-lone go f b y h m, leave-lone go f hs n)
 
+    -- so behind a block's own run x is not entered
     work-lone : (go : ℕ → Env → Outcome Env Stmt) → ((c : ℕ) (D : Env) → Calm P (go c D) → count x (go c D) ≡ bit (eqb x c))
         → {b : ℕ} {E : Env} (a : Answer (Work Env Stmt)) → F .body b E ≡ a → Calm P (work F go a) → count x (work F go a) ≡ 0
     unfolding work
     work-lone go f (refused r) e k = stop-calm k
     work-lone go f (done w) e k =
-        count-says x (w .lines) (leave F go (w .exits)) ∙ leave-lone go f (all-of (w .exits) (λ y h. exit-listed B e h)) (calm-says (w .lines) k)
+        count-says x (w .lines) (leave F go (w .exits)) ∙ leave-lone go f (each-of (w .exits) (λ y h. exit-listed B e h)) (calm-says (w .lines) k)
 
     -- the number of times, along a visit
     pub enter-lone : (n b : ℕ) (E : Env) → Calm P (enter F n b E) → count x (enter F n b E) ≡ bit (eqb x b)
@@ -107,6 +112,7 @@ module _ {Env Stmt : Type 0} (F : Frame Env Stmt) {Ok : Env → Type 0} (B : Bod
 
   -- 2. the edge i from p enters x, and no other: x is entered where a visit begins with it, and as often as p
   module _ (G : Edges F) {owner : ℕ → ℕ} (N : Points F owner) {p i : ℕ} (edge : Has (i, x) (F .targets p)) (plain : F .join-point x ≡ false) where
+    -- the targets of p name x once, those of any other block not at all
     named-edge : (b : ℕ) → named x (F .targets b) ≡ bit (eqb p b)
     named-edge b = split (eqb p b)
         (λ e.
@@ -114,6 +120,7 @@ module _ {Env Stmt : Type 0} (F : Frame Env Stmt) {Ok : Env → Type 0} (B : Bod
         rw e (named-one x i (F .targets b) (N .once b) (rw q at edge) (λ j h. (G .one-way plain h edge) .1)))
         (λ e. rw e (named-none x (F .targets b) (λ j h. clash (cc ((G .one-way plain h edge) .0, eqb-same p)))))
 
+    -- along a jump x is entered if it is the jump's target, and as often as p
     goto-edge : (go : ℕ → Env → Outcome Env Stmt) → ((c : ℕ) (D : Env) → Calm P (go c D) → count x (go c D) ≡ bit (eqb x c) + count p (go c D))
         → (y : Exit Env) → Calm P (goto F go y) → count x (goto F go y) ≡ bit (eqb x (y .block)) + count p (goto F go y)
     unfolding goto count
@@ -123,6 +130,7 @@ module _ {Env Stmt : Type 0} (F : Frame Env Stmt) {Ok : Env → Type 0} (B : Bod
         (λ d. rw (e, goto) (rw d (omega arith))))
         (λ e. rw (e, goto) (f (y .block) (y .state) (goto-calm-on F go y k e)))
 
+    -- along all jumps of a block, as often as they name x, and as often as p
     leave-edge : (go : ℕ → Env → Outcome Env Stmt) → ((c : ℕ) (D : Env) → Calm P (go c D) → count x (go c D) ≡ bit (eqb x c) + count p (go c D))
         → (ys : List (Exit Env)) → Calm P (leave F go ys) → count x (leave F go ys) ≡ named x (map target ys) + count p (leave F go ys)
     unfolding leave count named
@@ -131,6 +139,7 @@ module _ {Env Stmt : Type 0} (F : Frame Env Stmt) {Ok : Env → Type 0} (B : Bod
         let (m, n) = calm-next (goto F go y) k in
         omega (arith, count-next x (leave F go ys) m, count-next p (leave F go ys) m, goto-edge go f y m, leave-edge go f ys n)
 
+    -- behind a block's own run, once if the block is p, and as often as p
     work-edge : (go : ℕ → Env → Outcome Env Stmt) → ((c : ℕ) (D : Env) → Calm P (go c D) → count x (go c D) ≡ bit (eqb x c) + count p (go c D))
         → {b : ℕ} {E : Env} (a : Answer (Work Env Stmt)) → F .body b E ≡ a → Calm P (work F go a) → count x (work F go a) ≡ bit (eqb p b) + count p (work F go a)
     unfolding work
@@ -160,16 +169,16 @@ module _ {Stmt : Type 0} (owner : ℕ → ℕ) where
   part-append b (l ∷ ls) ms = split (eqb (owner (l .point)) b) (λ e. cc (part-append b ls ms)) (λ e. cc (part-append b ls ms))
 
   -- lines that are all its own
-  pub part-own : {b : ℕ} {ls : List (Line Stmt)} → All (λ l. owner (l .point) ≡ b) ls → part b ls ≡ ls
+  pub part-own : {b : ℕ} {ls : List (Line Stmt)} → Each (λ l. owner (l .point) ≡ b) ls → part b ls ≡ ls
   unfolding part
-  part-own all-none = refl
-  part-own {b} (all-more o os) = cc (part-own os, eqb-same b)
+  part-own each-none = refl
+  part-own {b} (each-more o os) = cc (part-own os, eqb-same b)
 
   -- lines that are all another block's
-  pub part-other : (c : ℕ) {b : ℕ} {ls : List (Line Stmt)} → All (λ l. owner (l .point) ≡ b) ls → eqb b c ≡ false → part c ls ≡ []
+  pub part-other : (c : ℕ) {b : ℕ} {ls : List (Line Stmt)} → Each (λ l. owner (l .point) ≡ b) ls → eqb b c ≡ false → part c ls ≡ []
   unfolding part
-  part-other c all-none e = refl
-  part-other c {b} (all-more o os) e = cc (part-other c os e)
+  part-other c each-none e = refl
+  part-other c {b} (each-more o os) e = cc (part-other c os e)
 
 module _ {Env Stmt : Type 0} (F : Frame Env Stmt) (kept : ℕ → Option Env) where
   -- what is recorded at a jump: nothing, unless it arrives at a join point
@@ -202,14 +211,14 @@ module _ {Env Stmt : Type 0} (F : Frame Env Stmt) (kept : ℕ → Option Env) wh
 
   module _ {owner : ℕ → ℕ} (N : Points F owner) where
     -- what is recorded at a jump stands at its block's point
-    pub hop-owned : {b : ℕ} (y : Exit Env) → Has (target y) (F .targets b) → All (λ l. owner (l .point) ≡ b) (hop y)
+    pub hop-owned : {b : ℕ} (y : Exit Env) → Has (target y) (F .targets b) → Each (λ l. owner (l .point) ≡ b) (hop y)
     unfolding hop
     hop-owned y h = split (F .join-point (y .block))
-        (λ e. rw (e, hop) (all-mark (y .item) (gives F kept y) (λ t. N .owned h)))
-        (λ e. rw (e, hop) all-none)
+        (λ e. rw (e, hop) (each-mark (y .item) (gives F kept y) (λ t. N .owned h)))
+        (λ e. rw (e, hop) each-none)
 
     -- and so at all of them
-    pub hops-owned : {b : ℕ} {ys : List (Exit Env)} → All (λ y. Has (target y) (F .targets b)) ys → All (λ l. owner (l .point) ≡ b) (hops ys)
+    pub hops-owned : {b : ℕ} {ys : List (Exit Env)} → Each (λ y. Has (target y) (F .targets b)) ys → Each (λ l. owner (l .point) ≡ b) (hops ys)
     unfolding hops
-    hops-owned all-none = all-none
-    hops-owned (all-more {a = y} h hs) = all-append (hop-owned y h) (hops-owned hs)
+    hops-owned each-none = each-none
+    hops-owned (each-more {a = y} h hs) = each-append (hop-owned y h) (hops-owned hs)

@@ -10,13 +10,18 @@ use Rattle.model.specs.Answer.{Answer, refused, done}
 use Rattle.model.specs.Frame.{Line, Exit, Work, Frame, target, Outcome, goto, leave, work, enter, visit, opening-exit, opening, carries, mark}
 use Rattle.model.specs.Passes.{Log}
 use Rattle.model.specs.Replay.{at-point, find}
-use Rattle.solver.specs.Base.{split, answer, clash, eqb-same, eqb-sym, Has, here, later, has-map, has-image, All, all-none, all-more, all-has, all-of, all-append, all-map, elem-has, all-apart, Once, once-head, once-tail}
-use Rattle.solver.specs.Lines.{at-append, at-none, at-mark, at-mark-other, all-mark}
+use Rattle.base.specs.Tests.{split, clash, eqb-same, eqb-sym}
+use Rattle.base.specs.Answer.{split-answer}
+use Rattle.base.specs.Each.{Each, each-none, each-more, each-append, each-same}
+use Rattle.solver.specs.Lists.{Has, here, later, has-map, has-image, each-has, each-of, elem-has, each-apart, Once, once-head, once-tail}
+use Rattle.solver.specs.Lines.{at-append, at-none, at-mark, at-mark-other, each-mark}
 use Rattle.solver.specs.Player.{Player, script, jump, play, Path, path-end, path-on}
 use Rattle.solver.specs.Laws.{Good, Bodies, Collects, Edges, Inside, Points, Follows}
 use Rattle.solver.specs.Outcome.{Calm, stop-calm, calm-inner, calm-next, calm-says, goto-calm-join, goto-calm-on}
-use Rattle.solver.specs.Solution.{exit-listed, Covered, Solution}
-use Rattle.solver.specs.Elaborate.{gives, tell, stored-visit, story, Elaborated}
+use Rattle.solver.specs.Arrivals.{exit-listed}
+use Rattle.solver.specs.Solution.{Covered, Solution}
+use Rattle.solver.specs.Told.{gives, tell, stored-visit, story}
+use Rattle.solver.specs.Elaborate.{Elaborated}
 use Rattle.solver.specs.Canon.{At, at-join, at-start, at-on, exits-once, at-through}
 use Rattle.solver.specs.Count.{part, hop, hops, tell-next, tell-says}
 use Rattle.solver.specs.Story.{opening-visit, opening-meet, record-at}
@@ -35,16 +40,17 @@ module _ {Env Stmt : Type 0} (F : Frame Env Stmt) where
   pub carries-append : (ts us : List Stmt) (D : Env) {E : Env} → carries F ts D ≡ done E → carries F (ts ++ us) D ≡ carries F us E
   unfolding carries
   carries-append [] us D e = cc
-  carries-append (t ∷ ts) us D {E} e = answer (F .carry t D)
+  carries-append (t ∷ ts) us D {E} e = split-answer (F .carry t D)
       (λ r d. clash (cc))
       (λ M d. let k = carries-append ts us M {E = E} (cc) in cc)
 
-  find-has : {i c : ℕ} {ts : List (ℕ × ℕ)} → Once (map (λ t. t .0) ts) → Has (i, c) ts → find i ts ≡ some c
+  -- a target that is listed is found by its item, if items differ
+  has-find : {i c : ℕ} {ts : List (ℕ × ℕ)} → Once (map (λ t. t .0) ts) → Has (i, c) ts → find i ts ≡ some c
   unfolding find
-  find-has {i} o here = cc (eqb-same i)
-  find-has {i} {c} o (later {b = t} h) = split (eqb (t .0) i)
+  has-find {i} o here = cc (eqb-same i)
+  has-find {i} {c} o (later {b = t} h) = split (eqb (t .0) i)
       (λ e. clash (cc (eqb-true (t .0) i e, once-head o, elem-has (has-map (λ t. t .0) h))))
-      (λ e. cc (find-has (once-tail o) h))
+      (λ e. cc (has-find (once-tail o) h))
 
   module _ (kept : ℕ → Option Env) where
     -- among the jumps of a block, an item has its own statements
@@ -54,15 +60,17 @@ module _ {Env Stmt : Type 0} (F : Frame Env Stmt) where
         (λ j. rw (j, hop) (at-mark-other p (y .item) (gives F kept y) e))
         (λ j. rw (j, hop) refl)
 
-    hops-none : (p : ℕ) {ys : List (Exit Env)} → All (λ y. eqb (y .item) p ≡ false) ys → at-point p (hops F kept ys) ≡ []
+    -- at a point that is no jump's item there is nothing of the jumps
+    hops-none : (p : ℕ) {ys : List (Exit Env)} → Each (λ y. eqb (y .item) p ≡ false) ys → at-point p (hops F kept ys) ≡ []
     unfolding hops at-point
-    hops-none p all-none = refl
-    hops-none p (all-more {a = y} {l = ys} e es) = at-append p (hop F kept y) (hops F kept ys) ∙ cc (hop-at p y e, hops-none p es)
+    hops-none p each-none = refl
+    hops-none p (each-more {a = y} {l = ys} e es) = at-append p (hop F kept y) (hops F kept ys) ∙ cc (hop-at p y e, hops-none p es)
 
+    -- at a jump's item there is what is recorded at that jump
     hops-one : {ys : List (Exit Env)} {y : Exit Env} → Once (map (λ x. x .item) ys) → Has y ys → at-point (y .item) (hops F kept ys) ≡ at-point (y .item) (hop F kept y)
     unfolding hops
     hops-one {y} o (here {l = ys}) = at-append (y .item) (hop F kept y) (hops F kept ys)
-        ∙ ap (λ l. at-point (y .item) (hop F kept y) ++ l) (hops-none (y .item) (all-apart (λ (x : Exit Env). x .item) (y .item) {l = ys} (once-head o)))
+        ∙ ap (λ l. at-point (y .item) (hop F kept y) ++ l) (hops-none (y .item) (each-apart (λ (x : Exit Env). x .item) (y .item) {l = ys} (once-head o)))
         ∙ append-nil (at-point (y .item) (hop F kept y))
     hops-one {y} o (later {b = z} {l = ys} h) = at-append (y .item) (hop F kept z) (hops F kept ys)
         ∙ cc (
@@ -78,43 +86,50 @@ module _ {Env Stmt : Type 0} (F : Frame Env Stmt) {Ok : Env → Type 0} (B : Bod
   abbrev Foreign : Line Stmt → Type 0
   Foreign l = eqb (l .point) (F .entry) ≡ false
 
+  -- a block's point is not the entry's
   owned-foreign : {b : ℕ} → b < F .blocks → (l : Line Stmt) → owner (l .point) ≡ b → Foreign l
   owned-foreign {b} m l o = split (eqb (l .point) (F .entry))
       (λ e. clash (cc (eqb-true (l .point) (F .entry) e, N .alone b m, eqb-same b)))
       (λ e. e)
 
   module _ (P : Exit Env → Type 0) where
+    -- the outcome records nothing at the entry's point
     abbrev Away : Outcome Env Stmt → Type 0
-    Away o = Calm P o → All Foreign (tell F kept o)
+    Away o = Calm P o → Each Foreign (tell F kept o)
 
+    -- a jump
     goto-away : (go : ℕ → Env → Outcome Env Stmt) → ((c : ℕ) (D : Env) → c < F .blocks → Away (go c D))
         → {b : ℕ} → b < F .blocks → (y : Exit Env) → Has (target y) (F .targets b) → Away (goto F go y)
     unfolding goto tell
     goto-away go f m y h k = split (F .join-point (y .block))
-        (λ e. rw (e, goto) (all-append (all-mark (y .item) (gives F kept y) (λ t. owned-foreign m (record { point = y .item; stmt = t }) (N .owned h))) all-none))
+        (λ e. rw (e, goto) (each-append (each-mark (y .item) (gives F kept y) (λ t. owned-foreign m (record { point = y .item; stmt = t }) (N .owned h))) each-none))
         (λ e. rw (e, goto) (f (y .block) (y .state) (G .below h) (goto-calm-on F go y k e)))
 
+    -- all jumps of a block
     leave-away : (go : ℕ → Env → Outcome Env Stmt) → ((c : ℕ) (D : Env) → c < F .blocks → Away (go c D))
-        → {b : ℕ} → b < F .blocks → {ys : List (Exit Env)} → All (λ y. Has (target y) (F .targets b)) ys → Away (leave F go ys)
+        → {b : ℕ} → b < F .blocks → {ys : List (Exit Env)} → Each (λ y. Has (target y) (F .targets b)) ys → Away (leave F go ys)
     unfolding leave tell
-    leave-away go f m all-none k = all-none
-    leave-away go f m (all-more {a = y} {l = ys} h hs) k =
+    leave-away go f m each-none k = each-none
+    leave-away go f m (each-more {a = y} {l = ys} h hs) k =
         let (u, v) = calm-next (goto F go y) k in
-        rw (tell-next F kept (leave F go ys) u) (all-append (goto-away go f m y h u) (leave-away go f m hs v))
+        rw (tell-next F kept (leave F go ys) u) (each-append (goto-away go f m y h u) (leave-away go f m hs v))
 
+    -- what follows a block's own run
     work-away : (go : ℕ → Env → Outcome Env Stmt) → ((c : ℕ) (D : Env) → c < F .blocks → Away (go c D))
         → {b : ℕ} → b < F .blocks → {E : Env} (a : Answer (Work Env Stmt)) → F .body b E ≡ a → Away (work F go a)
     unfolding work
     work-away go f m (refused r) e k = stop-calm k
     work-away go f m (done w) e k = rw (tell-says F kept (w .lines) (leave F go (w .exits)))
-        (all-append (all-map (λ l i. owned-foreign m l (i .owned)) (N .inside e))
-        (leave-away go f m (all-of (w .exits) (λ y h. exit-listed B e h)) (calm-says (w .lines) k)))
+        (each-append (each-same (λ l i. owned-foreign m l (i .owned)) (N .inside e))
+        (leave-away go f m (each-of (w .exits) (λ y h. exit-listed B e h)) (calm-says (w .lines) k)))
 
+    -- a block entered, at any fuel
     enter-away : (n b : ℕ) (E : Env) → b < F .blocks → Away (enter F n b E)
     unfolding enter tell
     enter-away zero b E m k = stop-calm k
     enter-away (suc n) b E m k = work-away (enter F n) (enter-away n) m (F .body b E) refl (calm-inner k)
 
+    -- a visit
     visit-away : (b : ℕ) (E : Env) → b < F .blocks → Away (visit F b E)
     unfolding visit
     visit-away b E m = enter-away (F .blocks) b E m
@@ -137,20 +152,23 @@ module _ {Env Stmt : Type 0} (F : Frame Env Stmt) {Ok : Env → Type 0} (B : Bod
       (λ e. rw (opening-visit F B G N kept E₀ S e, e, hop)
       (at-none (F .entry) (visit-away F B G N kept (Covered F Ok kept) 0 E₀ (G .some-block) (rw (opening-visit F B G N kept E₀ S e) at (S .opens)))))
 
-  entry-story : {bs : List ℕ} → All (λ b. (T : Env) × (kept b ≡ some T)) bs
+  -- in the whole record: the entry's own, then those of the jump to the start block
+  entry-story : {bs : List ℕ} → Each (λ b. (T : Env) × (kept b ≡ some T)) bs
       → at-point (F .entry) (story F kept ts E₀ bs) ≡ ts ++ at-point (F .entry) (hop F kept (opening-exit F E₀))
   unfolding story stored-visit
-  entry-story all-none = at-append (F .entry) (mark (F .entry) ts) (tell F kept (opening F E₀)) ∙ cc (at-mark (F .entry) ts, entry-opening)
-  entry-story (all-more {a = b} {l = bs} s ss) =
+  entry-story each-none = at-append (F .entry) (mark (F .entry) ts) (tell F kept (opening F E₀)) ∙ cc (at-mark (F .entry) ts, entry-opening)
+  entry-story (each-more {a = b} {l = bs} s ss) =
       at-append (F .entry) (story F kept ts E₀ bs) (tell F kept (stored-visit F kept b))
       ∙ ap (λ l. at-point (F .entry) (story F kept ts E₀ bs) ++ l)
       (rw (s .1, stored-visit) (at-none (F .entry) (visit-away F B G N kept (Covered F Ok kept) b (s .0) ((S .placed b (s .0) (s .1)) .below) (S .visits b (s .0) (s .1)))))
       ∙ append-nil (at-point (F .entry) (story F kept ts E₀ bs))
       ∙ entry-story ss
 
+  -- so the replay finds them there
   entry-script : script F R (g .lines) (F .entry) ≡ ts ++ at-point (F .entry) (hop F kept (opening-exit F E₀))
-  entry-script = rw (K .recorded) (entry-story (all-of (g .visited) (λ b h. K .only b (elem-has h))))
+  entry-script = rw (K .recorded) (entry-story (each-of (g .visited) (λ b h. K .only b (elem-has h))))
 
+  -- what is recorded at a jump leads to the canonical state of the block it goes to
   hop-lands : (y : Exit Env) → (F .join-point (y .block) ≡ true → Covered F Ok kept y)
       → (F .join-point (y .block) ≡ false → At F kept E₀ (y .block) (y .state))
       → Lands F kept E₀ (at-point (y .item) (hop F kept y)) (y .state) (y .block)
@@ -176,28 +194,32 @@ module _ {Env Stmt : Type 0} (F : Frame Env Stmt) {Ok : Env → Type 0} (B : Bod
       let l = hop-lands y (λ j. goto-calm-join F (visit F) y (S .opens) j) (λ j. at-start j refl refl) in
       record { state = l .state; carried = rw entry-script (carries-append F ts us E e ∙ l .carried); canon = l .canon }
 
+  -- a canonical state is good
   at-good : {b : ℕ} {E : Env} → At F kept E₀ b E → Good F Ok E
   at-good (at-join {b} {S = T} j p) = S .fine b T p
   at-good (at-start j p q) = rw q good
-  at-good (at-on A e h k) = all-has (B .good (at-good A) e) h
+  at-good (at-on A e h k) = each-has (B .good (at-good A) e) h
 
   -- the script at a block's points, from its canonical state
   module _ {b : ℕ} {E : Env} {w : Work Env Stmt} (A : At F kept E₀ b E) (e : F .body b E ≡ done w) where
+    -- at a block's point the replay finds what its run records there, then what its jumps do
     script-own : (p : ℕ) → owner p ≡ b → script F R (g .lines) p ≡ at-point p (w .lines) ++ at-point p (hops F kept (w .exits))
     script-own p o =
         let q = record-at F B G N kept E₀ S K A e in
         sym (at-part owner p (g .lines)) ∙ rw (o, q) (at-append p (w .lines) (hops F kept (w .exits)))
 
+    -- at a point inside the block, the run's own alone
     script-inside : (p : ℕ) → Inside F owner b p → script F R (g .lines) p ≡ at-point p (w .lines)
     script-inside p i =
         script-own p (i .owned)
-        ∙ ap (λ l. at-point p (w .lines) ++ l) (hops-none F kept p (all-of (w .exits) (λ y h. eqb-sym (y .item) p ∙ i .apart (y .item) (y .block) (exit-listed B e h))))
+        ∙ ap (λ l. at-point p (w .lines) ++ l) (hops-none F kept p (each-of (w .exits) (λ y h. eqb-sym (y .item) p ∙ i .apart (y .item) (y .block) (exit-listed B e h))))
         ∙ append-nil (at-point p (w .lines))
 
+    -- at a target item, the jump's own alone
     script-item : {y : Exit Env} → Has y (w .exits) → script F R (g .lines) (y .item) ≡ at-point (y .item) (hop F kept y)
     script-item {y} h =
         script-own (y .item) (N .owned (exit-listed B e h))
-        ∙ cc (at-none (y .item) (all-map (λ l i. i .apart (y .item) (y .block) (exit-listed B e h)) (N .inside e)), hops-one F kept (exits-once F B G N kept E₀ e) h)
+        ∙ cc (at-none (y .item) (each-same (λ l i. i .apart (y .item) (y .block) (exit-listed B e h)) (N .inside e)), hops-one F kept (exits-once F B G N kept E₀ e) h)
 
   -- one block, from its canonical state
   pub record Passed (b : ℕ) (E : Env) : Type 0 where
@@ -245,4 +267,4 @@ module _ {Env Stmt : Type 0} (F : Frame Env Stmt) {Ok : Env → Type 0} (B : Bod
       let p = at-passed A in
       let (D, j, A′) = p .jumps h in
       let k = play-comes A′ t in
-      record { state = k .state; plays = cc (find-has F (N .once b) h, p .ends, j, k .plays); canon = k .canon; fine = k .fine }
+      record { state = k .state; plays = cc (has-find F (N .once b) h, p .ends, j, k .plays); canon = k .canon; fine = k .fine }

@@ -7,7 +7,8 @@ use Prim.Native.Nat.{ℕ, zero, suc}
 use Rattle.model.specs.Answer.{Answer, refused, done, _>>=_}
 use Rattle.model.specs.Frame.{Line, Exit, Work, Frame, Outcome, over, stop, into, say, meet, next, says, goto, leave, work, enter, visit, opening-exit, opening}
 use Rattle.model.specs.Passes.{absorb, arrive, hear}
-use Rattle.solver.specs.Base.{split, answer}
+use Rattle.base.specs.Tests.{split}
+use Rattle.base.specs.Answer.{split-answer}
 
 module _ {Env Stmt S : Type 0} (F : Frame Env Stmt) (hear : Line Stmt → S → S) (arrive : Exit Env → S → Answer S) where
   -- lines, one after the other
@@ -41,7 +42,7 @@ module _ {Env Stmt S : Type 0} (F : Frame Env Stmt) (hear : Line Stmt → S → 
   absorb-next (stop r) q s = refl
   absorb-next (into b E o) q s = absorb-next o q s
   absorb-next (say l o) q s = absorb-next o q (hear l s)
-  absorb-next (meet x o) q s = answer (arrive x s) (λ r e. cc) (λ t e. cc (absorb-next o q t))
+  absorb-next (meet x o) q s = split-answer (arrive x s) (λ r e. cc) (λ t e. cc (absorb-next o q t))
 
   -- lines are taken in one after the other
   pub absorb-says : (ls : List (Line Stmt)) (o : Outcome Env Stmt) (s : S) → absorb hear arrive (says ls o) s ≡ absorb hear arrive o (hears ls s)
@@ -49,26 +50,30 @@ module _ {Env Stmt S : Type 0} (F : Frame Env Stmt) (hear : Line Stmt → S → 
   absorb-says [] o s = refl
   absorb-says (l ∷ ls) o s = absorb-says ls o (hear l s)
 
+  -- to take in what the one gives is to do what the other does
   abbrev Agree : (ℕ → Env → Outcome Env Stmt) → (ℕ → Env → S → Answer S) → Type 0
   Agree go ho = (c : ℕ) (D : Env) (s : S) → absorb hear arrive (go c D) s ≡ ho c D s
 
+  -- a jump
   goto-agree : (go : ℕ → Env → Outcome Env Stmt) (ho : ℕ → Env → S → Answer S) → Agree go ho → (x : Exit Env) (s : S)
       → absorb hear arrive (goto F go x) s ≡ do-goto ho x s
   unfolding goto do-goto absorb
   goto-agree go ho f x s = split (F .join-point (x .block))
-      (λ e. answer (arrive x s) (λ r d. cc) (λ t d. cc))
+      (λ e. split-answer (arrive x s) (λ r d. cc) (λ t d. cc))
       (λ e. cc (f (x .block) (x .state) s))
 
+  -- all jumps of a block
   leave-agree : (go : ℕ → Env → Outcome Env Stmt) (ho : ℕ → Env → S → Answer S) → Agree go ho → (xs : List (Exit Env)) (s : S)
       → absorb hear arrive (leave F go xs) s ≡ do-leave ho xs s
   unfolding leave do-leave absorb
   leave-agree go ho f [] s = refl
   leave-agree go ho f (x ∷ xs) s =
       absorb-next (goto F go x) (leave F go xs) s
-      ∙ answer (do-goto ho x s)
+      ∙ split-answer (do-goto ho x s)
       (λ r e. cc (goto-agree go ho f x s))
       (λ t e. cc (goto-agree go ho f x s, leave-agree go ho f xs t))
 
+  -- what follows a block's own run
   work-agree : (go : ℕ → Env → Outcome Env Stmt) (ho : ℕ → Env → S → Answer S) → Agree go ho → (a : Answer (Work Env Stmt)) (s : S)
       → absorb hear arrive (work F go a) s ≡ do-work ho a s
   unfolding work do-work absorb

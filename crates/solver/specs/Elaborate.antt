@@ -1,132 +1,32 @@
--- The second pass is never refused, visits each stored block once, and what it records.
-use mathlib.Core.Path.{_≡_, refl, sym, _∙_, ap}
-use mathlib.Core.Bool.{Bool, true, false, cond}
-use mathlib.Core.List.{List, [], _∷_, _++_, append-assoc, append-nil}
-use mathlib.Core.Option.{Option, none, some}
+-- The second pass after an accepted first pass: it is never refused, ends, visits each stored block exactly once and no other, and
+-- records the opening and these visits in a row.
+use mathlib.Core.Path.{_≡_, refl, _∙_, ap}
+use mathlib.Core.Bool.{true, false}
+use mathlib.Core.List.{List, _∷_}
+use mathlib.Core.Option.{Option, some}
 use Prim.Native.Nat.{ℕ, zero, suc, _<_}
 use lib.Dec.{eqb}
 use borrow.Author.Tests.{eqb-true}
-use Rattle.model.specs.Answer.{refused, done}
+use Rattle.model.specs.Answer.{done}
 use Rattle.model.specs.Rounds.{put, elem, idle, broke, turned, run-rounds, lowest}
-use Rattle.model.specs.Frame.{Line, Exit, Frame, target, Outcome, over, stop, into, say, meet, enter, visit, opening-exit, opening, mark}
-use Rattle.model.specs.Passes.{absorb, Log, hear, arrived, reconcile, arrive-at, take-down, visiting, round-two, unvisited, fresh-log, elaborate}
-use Rattle.solver.specs.Base.{split, option, clash, eqb-sym, put-same, put-other, has-image, Once, once-none, once-more, left-fall}
+use Rattle.model.specs.Frame.{Frame, target, enter, visit, opening-exit, opening}
+use Rattle.model.specs.Passes.{Log, visiting, round-two, unvisited, fresh-log, elaborate}
+use Rattle.base.specs.Tests.{split, split-option, clash, eqb-sym}
+use Rattle.solver.specs.Lists.{put-same, put-other, has-image, Once, once-none, once-more, left-fall}
 use Rattle.solver.specs.Loop.{after, Falls, run-round, run-ends, run-gives}
 use Rattle.solver.specs.Lowest.{lowest-none, lowest-some}
 use Rattle.solver.specs.Laws.{Bodies, Collects}
-use Rattle.solver.specs.Outcome.{Each, each-over, each-into, each-say, each-meet, Calm, calm-over, calm-into, calm-say, calm-meet, each-map, calm-each, stop-calm, calm-inner, goto-calm-join, goto-calm-on, work-calm}
-use Rattle.solver.specs.Solution.{Leads, leads-to, leads-on, Reach, reach-start, reach-first, reach-on, Covered, Solution}
-
-module _ {Env Stmt : Type 0} (F : Frame Env Stmt) (kept : ℕ → Option Env) where
-  -- what is recorded, outcome by outcome
-  unfoldable pub gives : Exit Env → List Stmt
-  gives x = elim (kept (x .block)) [ none ↦ [] | some S ↦ elim (F .collect (x .state) S) [ refused r ↦ [] | done ts ↦ ts ] ]
-
-  -- the lines of an outcome
-  unfoldable pub tell : Outcome Env Stmt → List (Line Stmt)
-  tell over = []
-  tell (stop r) = []
-  tell (into b E o) = tell o
-  tell (say l o) = l ∷ tell o
-  tell (meet x o) = mark (x .item) (gives x) ++ tell o
-
-  -- the visit of a stored block
-  unfoldable pub stored-visit : ℕ → Outcome Env Stmt
-  stored-visit b = elim (kept b) [ none ↦ over | some S ↦ visit F b S ]
-
-  -- the lines of the opening and of the visits, the latest first
-  unfoldable pub story : List Stmt → Env → List ℕ → List (Line Stmt)
-  story ts E [] = mark (F .entry) ts ++ tell (opening F E)
-  story ts E (b ∷ bs) = story ts E bs ++ tell (stored-visit b)
-
-  -- a block was visited, or waits
-  unfoldable pub due : Log Stmt → ℕ → Bool
-  due g c = cond (elem c (g .visited)) true (g .waits c)
-
-  -- what taking down an outcome does
-  pub record Told (g : Log Stmt) (o : Outcome Env Stmt) (h : Log Stmt) : Type 0 where
-    pub same : h .visited ≡ g .visited
-    pub recorded : h .lines ≡ g .lines ++ tell o
-    pub waits-on : (c : ℕ) → g .waits c ≡ true → h .waits c ≡ true
-    pub waits-new : (c : ℕ) → h .waits c ≡ true → g .waits c ≡ false → (elem c (g .visited) ≡ false) × ((S : Env) × (kept c ≡ some S))
-    pub heard : Each (λ x. due h (x .block) ≡ true) o
-
-module _ {Env Stmt : Type 0} (F : Frame Env Stmt) (Ok : Env → Type 0) (C : Collects F Ok) (kept : ℕ → Option Env) where
-  arrived-due : (x : Exit Env) (ts : List Stmt) (g : Log Stmt) → due F kept (arrived F kept x ts g) (x .block) ≡ true
-  unfolding due arrived
-  arrived-due x ts g = split (elem (x .block) (g .visited)) (λ e. cc) (λ e. cc (put-same (g .waits) (x .block) true))
-
-  due-told : {g h : Log Stmt} {o : Outcome Env Stmt} → Told F kept g o h → (c : ℕ) → due F kept g c ≡ true → due F kept h c ≡ true
-  unfolding due
-  due-told {g} {h} T c d = split (elem c (g .visited))
-      (λ e. cc (T .same))
-      (λ e. cc (T .same, T .waits-on c (cc)))
-
-  arrive-gives : (x : Exit Env) (g : Log Stmt) → Covered F Ok kept x → arrive-at F kept x g ≡ done (arrived F kept x (gives F kept x) g)
-  unfolding arrive-at reconcile gives
-  arrive-gives x g D =
-      let k = C .collects (D .good) (D .ok) (D .above) in
-      cc (D .stored, k .given)
-
-  told-over : (g : Log Stmt) → Told F kept g over g
-  unfolding tell
-  told-over g = record {
-    same = refl;
-    recorded = sym (append-nil (g .lines));
-    waits-on = λ c w. w;
-    waits-new = λ c w v. clash (cc);
-    heard = each-over;
-  }
-
-  told-say : {g h : Log Stmt} {l : Line Stmt} {o : Outcome Env Stmt} → Told F kept (hear F kept l g) o h → Told F kept g (say l o) h
-  unfolding tell hear
-  told-say {g} {h} {l} {o} T = record {
-    same = T .same;
-    recorded = T .recorded ∙ append-assoc (g .lines) (l ∷ []) (tell F kept o);
-    waits-on = T .waits-on;
-    waits-new = T .waits-new;
-    heard = each-say (T .heard);
-  }
-
-  told-meet : {g h : Log Stmt} {x : Exit Env} {o : Outcome Env Stmt} → Covered F Ok kept x
-      → Told F kept (arrived F kept x (gives F kept x) g) o h → Told F kept g (meet x o) h
-  unfolding tell arrived
-  told-meet {g} {h} {x} {o} D T =
-      let c = x .block in
-      record {
-        same = T .same;
-        recorded = T .recorded ∙ append-assoc (g .lines) (mark (x .item) (gives F kept x)) (tell F kept o);
-        waits-on = λ d w. T .waits-on d (split (elem c (g .visited))
-            (λ e. cc)
-            (λ e. split (eqb c d)
-            (λ q. cc (eqb-true c d q, put-same (g .waits) c true))
-            (λ q. cc (put-other (g .waits) c true d q))));
-        waits-new = λ d w v. split (elem c (g .visited))
-            (λ e. T .waits-new d w (cc))
-            (λ e. split (eqb c d)
-            (λ q. let z = eqb-true c d q in (cc, (D .state, cc (D .stored))))
-            (λ q. T .waits-new d w (cc (put-other (g .waits) c true d q))));
-        heard = each-meet (due-told T c (arrived-due x (gives F kept x) g)) (T .heard);
-      }
-
-  -- an outcome whose arrivals are covered is taken down
-  take-gives : (g : Log Stmt) {o : Outcome Env Stmt} → Calm (Covered F Ok kept) o
-      → (h : Log Stmt) × (take-down F kept o g ≡ done h) × Told F kept g o h
-  unfolding take-down absorb tell
-  take-gives g calm-over = (g, refl, told-over g)
-  take-gives g (calm-into k) = let (h, e, T) = take-gives g k in
-      (h, e, record { same = T .same; recorded = T .recorded; waits-on = T .waits-on; waits-new = T .waits-new; heard = each-into (T .heard) })
-  take-gives g (calm-say {l} {o} k) = let (h, e, T) = take-gives (hear F kept l g) k in (h, e, told-say T)
-  take-gives g (calm-meet {x} {o} D k) = let (h, e, T) = take-gives (arrived F kept x (gives F kept x) g) k in
-      (h, cc (arrive-gives x g D), told-meet D T)
+use Rattle.solver.specs.Outcome.{Every, Calm, every-map, calm-every, stop-calm, calm-inner, goto-calm-join, goto-calm-on, work-calm}
+use Rattle.solver.specs.Solution.{Leads, leads-to, leads-on, Reach, reach-start, reach-first, reach-on, Solution}
+use Rattle.solver.specs.Told.{stored-visit, story, due, Told, due-told, take-gives}
 
 -- the second pass under way
 pub record Under {Env Stmt : Type 0} (F : Frame Env Stmt) (kept : ℕ → Option Env) (ts : List Stmt) (E : Env) (g : Log Stmt) : Type 0 where
   pub waiting : (c : ℕ) → g .waits c ≡ true → (elem c (g .visited) ≡ false) × ((S : Env) × (kept c ≡ some S))
   pub stored : (c : ℕ) → elem c (g .visited) ≡ true → (S : Env) × (kept c ≡ some S)
   pub once : Once (g .visited)
-  pub opened : Each (λ x. due F kept g (x .block) ≡ true) (opening F E)
-  pub closed : (b : ℕ) → elem b (g .visited) ≡ true → Each (λ x. due F kept g (x .block) ≡ true) (stored-visit F kept b)
+  pub opened : Every (λ x. due F kept g (x .block) ≡ true) (opening F E)
+  pub closed : (b : ℕ) → elem b (g .visited) ≡ true → Every (λ x. due F kept g (x .block) ≡ true) (stored-visit F kept b)
   pub recorded : g .lines ≡ story F kept ts E (g .visited)
 
 -- one turn of it
@@ -139,19 +39,23 @@ pub record Went {Env Stmt : Type 0} (F : Frame Env Stmt) (kept : ℕ → Option 
   pub told : Told F kept (visiting F kept block g) (visit F block state) h
 
 module _ {Env Stmt : Type 0} (F : Frame Env Stmt) (Ok : Env → Type 0) (C : Collects F Ok) (kept : ℕ → Option Env) (ts : List Stmt) (E : Env) where
+  -- the visit of a block whose stored state is S
   stored-visit-at : (b : ℕ) (S : Env) → kept b ≡ some S → stored-visit F kept b ≡ visit F b S
   unfolding stored-visit
   stored-visit-at b S p = cc
 
+  -- what is due stays due when a block is popped
   due-visiting : (g : Log Stmt) (b c : ℕ) → due F kept g c ≡ true → due F kept (visiting F kept b g) c ≡ true
   unfolding due elem
   due-visiting g b c d = split (eqb c b)
       (λ e. cc)
       (λ e. split (elem c (g .visited)) (λ f. cc) (λ f. cc (put-other (g .waits) b false c (eqb-sym b c ∙ e))))
 
+  -- and when it was visited
   due-went : {g h : Log Stmt} → (W : Went F kept g h) → (c : ℕ) → due F kept g c ≡ true → due F kept h c ≡ true
   due-went {g} W c d = due-told F Ok C kept (W .told) c (due-visiting g (W .block) c d)
 
+  -- a turn keeps what is under way
   under-went : {g h : Log Stmt} → Under F kept ts E g → Went F kept g h → Under F kept ts E h
   unfolding elem story
   under-went {g} {h} U W =
@@ -171,10 +75,10 @@ module _ {Env Stmt : Type 0} (F : Frame Env Stmt) (Ok : Env → Type 0) (C : Col
             (λ e. (W .state, cc (eqb-true c b e, W .stored)))
             (λ e. U .stored c (cc));
         once = rw s (once-more ((U .waiting b (W .waited)) .0) (U .once));
-        opened = each-map (λ x d. due-went W (x .block) d) (U .opened);
+        opened = every-map (λ x d. due-went W (x .block) d) (U .opened);
         closed = λ c v. split (eqb c b)
             (λ e. let q = eqb-true c b e in rw (stored-visit-at c (W .state) (cc (W .stored)), q) (T .heard))
-            (λ e. each-map (λ x d. due-went W (x .block) d) (U .closed c (cc)));
+            (λ e. every-map (λ x d. due-went W (x .block) d) (U .closed c (cc)));
         recorded = cc (T .recorded, U .recorded, stored-visit-at b (W .state) (W .stored));
       }
 
@@ -189,21 +93,24 @@ module _ {Env Stmt : Type 0} (F : Frame Env Stmt) (Ok : Env → Type 0) (C : Col
         let (h, t, T) = take-gives F Ok C kept (visiting F kept b g) (X .visits b S p) in
         (h, cc, record { block = b; state = S; below = w .0; waited = w .1; stored = p; told = T })
 
+    -- a round that goes on has visited a block
     turn-two : (g h : Log Stmt) → Under F kept ts E g → round-two F kept g ≡ turned h → Went F kept g h
     unfolding round-two
-    turn-two g h U e = option (lowest (F .rank) (g .waits) (F .blocks))
+    turn-two g h U e = split-option (lowest (F .rank) (g .waits) (F .blocks))
         (λ p. clash (cc))
         (λ b p. let (k, d, W) = step-two g U b p in let q : k ≡ h = cc in rw (← q) W)
 
+    -- no round is refused
     calm-two : (g : Log Stmt) (k : ℕ) → Under F kept ts E g → round-two F kept g ≡ broke k → ⊥
     unfolding round-two
-    calm-two g k U e = option (lowest (F .rank) (g .waits) (F .blocks))
+    calm-two g k U e = split-option (lowest (F .rank) (g .waits) (F .blocks))
         (λ p. clash (cc))
         (λ b p. let (h, d, W) = step-two g U b p in clash (cc))
 
+    -- at rest, nothing waits
     rest-two : (g : Log Stmt) → Under F kept ts E g → round-two F kept g ≡ idle → (b : ℕ) → b < F .blocks → g .waits b ≡ false
     unfolding round-two
-    rest-two g U e = option (lowest (F .rank) (g .waits) (F .blocks))
+    rest-two g U e = split-option (lowest (F .rank) (g .waits) (F .blocks))
         (λ p. lowest-none (F .rank) (g .waits) (F .blocks) p)
         (λ b p. let (h, d, W) = step-two g U b p in clash (cc))
 
@@ -245,6 +152,7 @@ pub record Elaborated {Env Stmt : Type 0} (F : Frame Env Stmt) (kept : ℕ → O
 
 -- a calm visit arrives wherever the graph leads
 module _ {Env Stmt : Type 0} {F : Frame Env Stmt} {Ok : Env → Type 0} (B : Bodies F Ok) (P : ℕ → Type 0) where
+  -- what holds where a calm visit arrives holds where the graph leads
   leads-calm : {b c : ℕ} → Leads F b c → (n : ℕ) (E : Env) → Calm (λ x. P (x .block)) (enter F n b E) → P c
   unfolding enter
   leads-calm l zero E k = stop-calm k
@@ -275,13 +183,13 @@ module _ {Env Stmt : Type 0} (F : Frame Env Stmt) (Ok : Env → Type 0) (B : Bod
   reach-visited : (g : Log Stmt) → Under F kept ts E g → ((c : ℕ) → due F kept g c ≡ true → elem c (g .visited) ≡ true)
       → {c : ℕ} → Reach F c → elem c (g .visited) ≡ true
   unfolding opening visit stored-visit
-  reach-visited g U r (reach-start j) = r 0 (goto-calm-join F (visit F) (opening-exit F E) (calm-each (X .opens) (U .opened)) j)
+  reach-visited g U r (reach-start j) = r 0 (goto-calm-join F (visit F) (opening-exit F E) (calm-every (X .opens) (U .opened)) j)
   reach-visited g U r (reach-first {c} j l) = r c (leads-calm B (λ d. due F kept g d ≡ true) l (F .blocks) E
-      (goto-calm-on F (visit F) (opening-exit F E) (calm-each (X .opens) (U .opened)) j))
+      (goto-calm-on F (visit F) (opening-exit F E) (calm-every (X .opens) (U .opened)) j))
   reach-visited g U r (reach-on {b} {c} R l) =
       let v = reach-visited g U r R in
       let (S, p) = U .stored b v in
-      r c (leads-calm B (λ d. due F kept g d ≡ true) l (F .blocks) S (calm-each (X .visits b S p) (rw (p, stored-visit) at (U .closed b v))))
+      r c (leads-calm B (λ d. due F kept g d ≡ true) l (F .blocks) S (calm-every (X .visits b S p) (rw (p, stored-visit) at (U .closed b v))))
 
   -- THE SECOND PASS is never refused, visits every stored block exactly once, and records the story of its visits
   pub elaborate-works : (g : Log Stmt) × (elaborate F kept ts E ≡ done g) × Elaborated F kept ts E g

@@ -10,9 +10,11 @@ use borrow.Author.Tests.{eqb-true}
 use Rattle.model.specs.Answer.{Answer, refused, done}
 use Rattle.model.specs.Rounds.{elem, left}
 use Rattle.model.specs.Frame.{Exit, Work, Frame, Outcome, into, goto, leave, work, enter, visit}
-use Rattle.solver.specs.Base.{split, clash, eqb-same, Has, All, all-none, all-more, all-of, Once, once-none, once-more, once-head, left-fall, left-most}
+use Rattle.base.specs.Tests.{split, clash, eqb-same}
+use Rattle.base.specs.Each.{Each, each-none, each-more}
+use Rattle.solver.specs.Lists.{Has, each-of, Once, once-none, once-more, once-head, left-fall, left-most}
 use Rattle.solver.specs.Laws.{Bodies, Edges}
-use Rattle.solver.specs.Solution.{exit-listed}
+use Rattle.solver.specs.Arrivals.{exit-listed}
 
 module _ {Env Stmt : Type 0} (F : Frame Env Stmt) where
   -- where a visit begins
@@ -30,6 +32,7 @@ module _ {Env Stmt : Type 0} (F : Frame Env Stmt) where
   Deep zero b = ⊥
   Deep (suc n) b = (i c : ℕ) → Has (i, c) (F .targets b) → F .join-point c ≡ false → Deep n c
 
+  -- more fuel is enough too
   deep-more : (n m b : ℕ) → n ≤ m → Deep n b → Deep m b
   deep-more zero m b l d = absurd d
   deep-more (suc n) zero b l d = absurd (omega arith)
@@ -68,6 +71,7 @@ module _ {Env Stmt : Type 0} (F : Frame Env Stmt) where
     way-once (way-root r) = once-more refl once-none
     way-once (way-on W h e) = let o = way-once W in once-more (fresh W h e (once-head o)) o
 
+    -- the blocks that are not yet on the way are enough
     way-deep : (n b : ℕ) (w : List ℕ) → Way b w → left (F .blocks) (b ∷ w) ≤ n → Deep (suc n) b
     way-deep zero b w W l = λ i c h e.
         let f = left-fall (F .blocks) c (b ∷ w) (G .below h) (once-head (way-once (way-on W h e))) in
@@ -90,6 +94,7 @@ module _ {Env Stmt : Type 0} (F : Frame Env Stmt) where
         let m = left-most (F .blocks) [] in
         deep-more (suc (left (F .blocks) (b ∷ []))) (F .blocks) b (omega arith) (way-deep (left (F .blocks) (b ∷ [])) b [] (way-root r) (omega arith))
 
+    -- what is enough for a block is enough for those that it enters
     deep-next : (n b : ℕ) → Deep n b → {i c : ℕ} → Has (i, c) (F .targets b) → F .join-point c ≡ false → Deep n c
     deep-next zero b d h e = absurd d
     deep-next (suc n) b d {i} {c} h e = deep-more n (suc n) c (omega arith) (d i c h e)
@@ -103,23 +108,26 @@ module _ {Env Stmt : Type 0} (F : Frame Env Stmt) where
   abbrev Same : (ℕ → Env → Outcome Env Stmt) → (ℕ → Env → Outcome Env Stmt) → Exit Env → Type 0
   Same go ho x = F .join-point (x .block) ≡ false → go (x .block) (x .state) ≡ ho (x .block) (x .state)
 
+  -- one jump
   goto-same : (go ho : ℕ → Env → Outcome Env Stmt) (x : Exit Env) → Same go ho x → goto F go x ≡ goto F ho x
   unfolding goto
   goto-same go ho x f = split (F .join-point (x .block)) (λ e. cc) (λ e. cc (f e))
 
-  leave-same : (go ho : ℕ → Env → Outcome Env Stmt) {xs : List (Exit Env)} → All (Same go ho) xs → leave F go xs ≡ leave F ho xs
+  -- all jumps of a block
+  leave-same : (go ho : ℕ → Env → Outcome Env Stmt) {xs : List (Exit Env)} → Each (Same go ho) xs → leave F go xs ≡ leave F ho xs
   unfolding leave
-  leave-same go ho all-none = refl
-  leave-same go ho (all-more {a = x} f fs) = cc (goto-same go ho x f, leave-same go ho fs)
+  leave-same go ho each-none = refl
+  leave-same go ho (each-more {a = x} f fs) = cc (goto-same go ho x f, leave-same go ho fs)
 
   module _ {Ok : Env → Type 0} (B : Bodies F Ok) where
+    -- what follows a block's own run
     work-same : (go ho : ℕ → Env → Outcome Env Stmt) {b : ℕ} {E : Env} (a : Answer (Work Env Stmt)) → F .body b E ≡ a
         → ((i c : ℕ) (D : Env) → Has (i, c) (F .targets b) → F .join-point c ≡ false → go c D ≡ ho c D)
         → work F go a ≡ work F ho a
     unfolding work
     work-same go ho (refused r) e f = refl
     work-same go ho (done w) e f =
-        cc (leave-same go ho (all-of (w .exits) (λ x h n. f (x .item) (x .block) (x .state) (exit-listed B e h) n)))
+        cc (leave-same go ho (each-of (w .exits) (λ x h n. f (x .item) (x .block) (x .state) (exit-listed B e h) n)))
 
     -- any two fuels that are enough give the same visit
     pub enter-same : (n m b : ℕ) (E : Env) → Deep n b → Deep m b → enter F n b E ≡ enter F m b E
@@ -129,6 +137,7 @@ module _ {Env Stmt : Type 0} (F : Frame Env Stmt) where
     enter-same (suc n) (suc m) b E d f = ap (λ o. into b E o) (work-same (enter F n) (enter F m) (F .body b E) refl
         (λ i c D h e. enter-same n m c D (d i c h e) (f i c h e)))
 
+    -- a block entered with enough fuel for those that it enters
     step : (n b : ℕ) (E : Env) → Deep n b → ((i c : ℕ) → Has (i, c) (F .targets b) → F .join-point c ≡ false → Deep n c)
         → enter F n b E ≡ into b E (work F (enter F n) (F .body b E))
     unfolding enter

@@ -7,8 +7,9 @@ use lib.Dec.{eqb}
 use Rattle.model.specs.Answer.{done}
 use Rattle.model.specs.Frame.{Exit, Work, Frame, target, carries}
 use Rattle.model.specs.Replay.{at-point}
-use Rattle.solver.specs.Base.{Has, All, Once}
-use Rattle.solver.specs.Order.{Semilattice}
+use Rattle.base.specs.Each.{Each}
+use Rattle.base.specs.Order.{Semilattice}
+use Rattle.solver.specs.Lists.{Has, Once}
 use Rattle.solver.specs.Player.{Player}
 
 -- the laws of states, for those that are Ok
@@ -27,7 +28,7 @@ module _ {Env Stmt : Type 0} (F : Frame Env Stmt) (Ok : Env → Type 0) where
 
   -- a block's run keeps states good, and leaves by the listed targets, whatever the state
   pub record Bodies : Type 0 where
-    pub good : {b : ℕ} {E : Env} {w : Work Env Stmt} → Good E → F .body b E ≡ done w → All (λ x. Good (x .state)) (w .exits)
+    pub good : {b : ℕ} {E : Env} {w : Work Env Stmt} → Good E → F .body b E ≡ done w → Each (λ x. Good (x .state)) (w .exits)
     pub listed : {b : ℕ} {E : Env} {w : Work Env Stmt} → F .body b E ≡ done w → map target (w .exits) ≡ F .targets b
 
 -- what a collection of statements from E to S is
@@ -60,7 +61,7 @@ module _ {Env Stmt : Type 0} (F : Frame Env Stmt) (owner : ℕ → ℕ) where
     pub owned : {b i c : ℕ} → Has (i, c) (F .targets b) → owner i ≡ b
     pub once : (b : ℕ) → Once (map (λ t. t .0) (F .targets b))
     pub alone : (b : ℕ) → b < F .blocks → eqb (owner (F .entry)) b ≡ false
-    pub inside : {b : ℕ} {E : Env} {w : Work Env Stmt} → F .body b E ≡ done w → All (λ l. Inside b (l .point)) (w .lines)
+    pub inside : {b : ℕ} {E : Env} {w : Work Env Stmt} → F .body b E ≡ done w → Each (λ l. Inside b (l .point)) (w .lines)
 
 -- the replay of a block by a script that has the block's own statements inside follows the block's run
 pub record Followed {Env Stmt : Type 0} (R : Player Env Stmt) (f : ℕ → List Stmt) (b : ℕ) (E : Env) (w : Work Env Stmt) : Type 0 where

@@ -6,7 +6,8 @@ use Prim.Native.Nat.{ℕ}
 use lib.Dec.{eqb}
 use Rattle.model.specs.Frame.{Line, mark}
 use Rattle.model.specs.Replay.{at-point}
-use Rattle.solver.specs.Base.{split, eqb-same, All, all-none, all-more}
+use Rattle.base.specs.Tests.{split, eqb-same}
+use Rattle.base.specs.Each.{Each, each-none, each-more}
 
 module _ {Stmt : Type 0} where
   -- one list after the other
@@ -16,17 +17,17 @@ module _ {Stmt : Type 0} where
   at-append p (l ∷ ls) ms = split (eqb (l .point) p) (λ e. cc (at-append p ls ms)) (λ e. cc (at-append p ls ms))
 
   -- lines at other points
-  pub at-none : (p : ℕ) {ls : List (Line Stmt)} → All (λ l. eqb (l .point) p ≡ false) ls → at-point p ls ≡ []
+  pub at-none : (p : ℕ) {ls : List (Line Stmt)} → Each (λ l. eqb (l .point) p ≡ false) ls → at-point p ls ≡ []
   unfolding at-point
-  at-none p all-none = refl
-  at-none p (all-more e es) = cc (at-none p es)
+  at-none p each-none = refl
+  at-none p (each-more e es) = cc (at-none p es)
 
   -- behind or before lines at other points
-  pub at-first : (p : ℕ) (ls : List (Line Stmt)) {ms : List (Line Stmt)} → All (λ l. eqb (l .point) p ≡ false) ms → at-point p (ls ++ ms) ≡ at-point p ls
+  pub at-first : (p : ℕ) (ls : List (Line Stmt)) {ms : List (Line Stmt)} → Each (λ l. eqb (l .point) p ≡ false) ms → at-point p (ls ++ ms) ≡ at-point p ls
   at-first p ls {ms} h = at-append p ls ms ∙ ap (λ l. at-point p ls ++ l) (at-none p h) ∙ append-nil (at-point p ls)
 
   -- and behind them
-  pub at-second : (p : ℕ) {ls : List (Line Stmt)} (ms : List (Line Stmt)) → All (λ l. eqb (l .point) p ≡ false) ls → at-point p (ls ++ ms) ≡ at-point p ms
+  pub at-second : (p : ℕ) {ls : List (Line Stmt)} (ms : List (Line Stmt)) → Each (λ l. eqb (l .point) p ≡ false) ls → at-point p (ls ++ ms) ≡ at-point p ms
   at-second p {ls} ms h = at-append p ls ms ∙ ap (λ l. l ++ at-point p ms) (at-none p h)
 
   -- lines marked at the point, and at another
@@ -42,7 +43,7 @@ module _ {Stmt : Type 0} where
   at-mark-other p i (t ∷ ts) e = cc (at-mark-other p i ts e)
 
   -- each of the lines marked at a point
-  pub all-mark : {Q : Line Stmt → Type 0} (i : ℕ) (ts : List Stmt) → ((t : Stmt) → Q (record { point = i; stmt = t })) → All Q (mark i ts)
+  pub each-mark : {Q : Line Stmt → Type 0} (i : ℕ) (ts : List Stmt) → ((t : Stmt) → Q (record { point = i; stmt = t })) → Each Q (mark i ts)
   unfolding mark
-  all-mark i [] f = all-none
-  all-mark i (t ∷ ts) f = all-more (f t) (all-mark i ts f)
+  each-mark i [] f = each-none
+  each-mark i (t ∷ ts) f = each-more (f t) (each-mark i ts f)

@@ -4,7 +4,7 @@ use Prim.Native.Nat.{ℕ, zero, suc, _<_}
 use native.Mathlib.Omega.{arith}
 use Rattle.model.specs.Answer.{Answer, refused, done}
 use Rattle.model.specs.Rounds.{Round, idle, broke, turned, loop, run-rounds}
-use Rattle.solver.specs.Base.{clash}
+use Rattle.base.specs.Tests.{clash}
 
 -- by cases on a round, with the equation in reach of `cc`
 pub rounds : {P S : Type 0} (r : Round S) → (r ≡ idle → P) → ((k : ℕ) → r ≡ broke k → P) → ((t : S) → r ≡ turned t → P) → P
@@ -48,6 +48,7 @@ module _ {S : Type 0} (round : S → Round S) where
         let h = loop-same (load s) (suc (load t)) t (H .keeps i e) (omega arith) (omega arith) in
         cc)
 
+    -- with enough fuel an accepted loop ends at rest, with the invariant
     loop-ends : (n : ℕ) (s t : S) → Inv s → load s < n → loop round n s ≡ done t → Ends Inv t
     unfolding loop
     loop-ends zero s t i p e = absurd (omega arith)
@@ -61,6 +62,7 @@ module _ {S : Type 0} (round : S → Round S) where
     unfolding run-rounds
     run-ends {s} {t} i e = loop-ends (suc (load s)) s t i (omega arith) e
 
+    -- a loop is refused as one of its rounds is
     loop-refused : {Q : ℕ → Type 0} → ((s : S) (k : ℕ) → Inv s → round s ≡ broke k → Q k)
         → (n : ℕ) (s : S) (r : ℕ) → Inv s → loop round n s ≡ refused r → Q r
     unfolding loop
@@ -77,6 +79,7 @@ module _ {S : Type 0} (round : S → Round S) where
 
     -- a run whose rounds are never refused is accepted
     module _ (calm : (s : S) (k : ℕ) → Inv s → round s ≡ broke k → ⊥) where
+      -- a loop whose rounds are never refused is accepted
       loop-gives : (n : ℕ) (s : S) → Inv s → (t : S) × (loop round n s ≡ done t)
       unfolding loop
       loop-gives zero s i = (s, refl)

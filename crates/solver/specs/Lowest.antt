@@ -1,14 +1,14 @@
 -- The waiting number of lowest rank.
-use mathlib.Core.Path.{_≡_}
+use mathlib.Core.Path.{_≡_, sym, subst}
 use mathlib.Core.Bool.{Bool, true, false}
 use mathlib.Core.Option.{Option, none, some}
 use Prim.Native.Nat.{ℕ, zero, suc, _≤_, _<_}
 use native.Mathlib.Omega.{arith}
-use native.Mathlib.Decide.{decLt}
 use lib.Dec.{ltb}
 use borrow.Author.Tests.{ltb-true, ltb-false}
 use Rattle.model.specs.Rounds.{better, lowest}
-use Rattle.solver.specs.Base.{split, clash}
+use Rattle.base.specs.Tests.{split, clash}
+use Rattle.base.specs.Below.{below-suc}
 
 module _ (rank : ℕ → ℕ) (waits : ℕ → Bool) where
   -- what it gives: none if none waits, else one that waits and whose rank is the lowest
@@ -16,18 +16,20 @@ module _ (rank : ℕ → ℕ) (waits : ℕ → Bool) where
     no-one : ((b : ℕ) → b < n → waits b ≡ false) → Lowest n none
     the-one : {b : ℕ} → b < n → waits b ≡ true → ((c : ℕ) → c < n → waits c ≡ true → rank b ≤ rank c) → Lowest n (some b)
 
-  below-suc : (P : ℕ → Type 0) (n : ℕ) → ((c : ℕ) → c < n → P c) → P n → (c : ℕ) → c < suc n → P c
-  below-suc P n f p c l = elim (decLt c n) [ yes m ↦ f c m | no m ↦ let e : n ≡ c = omega arith in rw e at p ]
+  -- of the numbers below n, and of n
+  one-more-of : (P : ℕ → Type 0) (n : ℕ) → ((c : ℕ) → c < n → P c) → P n → (c : ℕ) → c < suc n → P c
+  one-more-of P n f p c l = below-suc l (λ e. subst P (sym e) p) (f c)
 
+  -- the lowest of one number more, if that one waits
   one-more : (n : ℕ) (o : Option ℕ) → Lowest n o → waits n ≡ true → Lowest (suc n) (better rank o n)
   unfolding better
   one-more n _ (no-one f) w = the-one {b = n} (omega arith) w
-      (below-suc (λ c. waits c ≡ true → rank n ≤ rank c) n (λ c l v. clash (cc (f c l))) (λ v. omega arith))
+      (one-more-of (λ c. waits c ≡ true → rank n ≤ rank c) n (λ c l v. clash (cc (f c l))) (λ v. omega arith))
   one-more n _ (the-one {b} l v h) w = split (ltb (rank n) (rank b))
       (λ e. let k = ltb-true (rank n) (rank b) e in rw (e, better) (the-one {b = n} (omega arith) w
-      (below-suc (λ c. waits c ≡ true → rank n ≤ rank c) n (λ c m u. omega (arith, h c m u)) (λ u. omega arith))))
+      (one-more-of (λ c. waits c ≡ true → rank n ≤ rank c) n (λ c m u. omega (arith, h c m u)) (λ u. omega arith))))
       (λ e. let k = ltb-false (rank n) (rank b) e in rw (e, better) (the-one {b = b} (omega arith) v
-      (below-suc (λ c. waits c ≡ true → rank b ≤ rank c) n h (λ u. k))))
+      (one-more-of (λ c. waits c ≡ true → rank b ≤ rank c) n h (λ u. k))))
 
   -- it is the lowest
   pub lowest-law : (n : ℕ) → Lowest n (lowest rank waits n)
@@ -38,9 +40,9 @@ module _ (rank : ℕ → ℕ) (waits : ℕ → Bool) where
       (λ e. rw (e, lowest) (go (lowest rank waits n) (lowest-law n) e))
     where
       go : (o : Option ℕ) → Lowest n o → waits n ≡ false → Lowest (suc n) o
-      go _ (no-one f) w = no-one (below-suc (λ c. waits c ≡ false) n f w)
+      go _ (no-one f) w = no-one (one-more-of (λ c. waits c ≡ false) n f w)
       go _ (the-one {b} l v h) w = the-one {b = b} (omega arith) v
-          (below-suc (λ c. waits c ≡ true → rank b ≤ rank c) n h (λ u. clash (cc)))
+          (one-more-of (λ c. waits c ≡ true → rank b ≤ rank c) n h (λ u. clash (cc)))
 
   -- none: none waits
   pub lowest-none : (n : ℕ) → lowest rank waits n ≡ none → (b : ℕ) → b < n → waits b ≡ false

@@ -5,16 +5,16 @@ use mathlib.Core.List.{List, [], _∷_}
 use Prim.Native.Nat.{ℕ}
 use Rattle.model.specs.Answer.{Answer, refused, done}
 use Rattle.model.specs.Frame.{Line, Exit, Work, Frame, Outcome, over, stop, into, say, meet, next, says, goto, leave, work}
-use Rattle.solver.specs.Base.{Has, here, later}
+use Rattle.solver.specs.Lists.{Has, here, later}
 
 module _ {Env Stmt : Type 0} where
   -- every arrival is P (a refusal may end it)
-  pub data Each (P : Exit Env → Type 0) : Outcome Env Stmt → Type 0 where
-    each-over : Each P over
-    each-stop : {r : ℕ} → Each P (stop r)
-    each-into : {b : ℕ} {E : Env} {o : Outcome Env Stmt} → Each P o → Each P (into b E o)
-    each-say : {l : Line Stmt} {o : Outcome Env Stmt} → Each P o → Each P (say l o)
-    each-meet : {x : Exit Env} {o : Outcome Env Stmt} → P x → Each P o → Each P (meet x o)
+  pub data Every (P : Exit Env → Type 0) : Outcome Env Stmt → Type 0 where
+    every-over : Every P over
+    every-stop : {r : ℕ} → Every P (stop r)
+    every-into : {b : ℕ} {E : Env} {o : Outcome Env Stmt} → Every P o → Every P (into b E o)
+    every-say : {l : Line Stmt} {o : Outcome Env Stmt} → Every P o → Every P (say l o)
+    every-meet : {x : Exit Env} {o : Outcome Env Stmt} → P x → Every P o → Every P (meet x o)
 
   -- every arrival is P, and it isn't refused
   pub data Calm (P : Exit Env → Type 0) : Outcome Env Stmt → Type 0 where
@@ -24,12 +24,12 @@ module _ {Env Stmt : Type 0} where
     calm-meet : {x : Exit Env} {o : Outcome Env Stmt} → P x → Calm P o → Calm P (meet x o)
 
   -- a consequence
-  pub each-map : {P Q : Exit Env → Type 0} {o : Outcome Env Stmt} → ((x : Exit Env) → P x → Q x) → Each P o → Each Q o
-  each-map f each-over = each-over
-  each-map f each-stop = each-stop
-  each-map f (each-into h) = each-into (each-map f h)
-  each-map f (each-say h) = each-say (each-map f h)
-  each-map f (each-meet {x} p h) = each-meet (f x p) (each-map f h)
+  pub every-map : {P Q : Exit Env → Type 0} {o : Outcome Env Stmt} → ((x : Exit Env) → P x → Q x) → Every P o → Every Q o
+  every-map f every-over = every-over
+  every-map f every-stop = every-stop
+  every-map f (every-into h) = every-into (every-map f h)
+  every-map f (every-say h) = every-say (every-map f h)
+  every-map f (every-meet {x} p h) = every-meet (f x p) (every-map f h)
 
   -- a consequence
   pub calm-map : {P Q : Exit Env → Type 0} {o : Outcome Env Stmt} → ((x : Exit Env) → P x → Q x) → Calm P o → Calm Q o
@@ -39,11 +39,11 @@ module _ {Env Stmt : Type 0} where
   calm-map f (calm-meet {x} p h) = calm-meet (f x p) (calm-map f h)
 
   -- calm, and each arrival P
-  pub calm-each : {P Q : Exit Env → Type 0} {o : Outcome Env Stmt} → Calm Q o → Each P o → Calm P o
-  calm-each calm-over each-over = calm-over
-  calm-each (calm-into k) (each-into h) = calm-into (calm-each k h)
-  calm-each (calm-say k) (each-say h) = calm-say (calm-each k h)
-  calm-each (calm-meet q k) (each-meet p h) = calm-meet p (calm-each k h)
+  pub calm-every : {P Q : Exit Env → Type 0} {o : Outcome Env Stmt} → Calm Q o → Every P o → Calm P o
+  calm-every calm-over every-over = calm-over
+  calm-every (calm-into k) (every-into h) = calm-into (calm-every k h)
+  calm-every (calm-say k) (every-say h) = calm-say (calm-every k h)
+  calm-every (calm-meet q k) (every-meet p h) = calm-meet p (calm-every k h)
 
   -- a refusal is not calm
   pub stop-calm : {A : Type 0} {P : Exit Env → Type 0} {r : ℕ} → Calm P (stop r) → A
@@ -58,19 +58,19 @@ module _ {Env Stmt : Type 0} where
   calm-first (calm-meet p k) = p
 
   -- one outcome after the other
-  pub each-next : {P : Exit Env → Type 0} {o q : Outcome Env Stmt} → Each P o → Each P q → Each P (next o q)
+  pub every-next : {P : Exit Env → Type 0} {o q : Outcome Env Stmt} → Every P o → Every P q → Every P (next o q)
   unfolding next
-  each-next each-over k = k
-  each-next each-stop k = each-stop
-  each-next (each-into h) k = each-into (each-next h k)
-  each-next (each-say h) k = each-say (each-next h k)
-  each-next (each-meet p h) k = each-meet p (each-next h k)
+  every-next every-over k = k
+  every-next every-stop k = every-stop
+  every-next (every-into h) k = every-into (every-next h k)
+  every-next (every-say h) k = every-say (every-next h k)
+  every-next (every-meet p h) k = every-meet p (every-next h k)
 
   -- lines first
-  pub each-says : {P : Exit Env → Type 0} (ls : List (Line Stmt)) {o : Outcome Env Stmt} → Each P o → Each P (says ls o)
+  pub every-says : {P : Exit Env → Type 0} (ls : List (Line Stmt)) {o : Outcome Env Stmt} → Every P o → Every P (says ls o)
   unfolding says
-  each-says [] h = h
-  each-says (l ∷ ls) h = each-say (each-says ls h)
+  every-says [] h = h
+  every-says (l ∷ ls) h = every-say (every-says ls h)
 
   -- what is calm is calm in its parts
   pub calm-next : {P : Exit Env → Type 0} (o : Outcome Env Stmt) {q : Outcome Env Stmt} → Calm P (next o q) → Calm P o × Calm P q

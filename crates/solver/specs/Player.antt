@@ -6,7 +6,7 @@ use Prim.Native.Nat.{ℕ}
 use Rattle.model.specs.Answer.{Answer, refused, done, _>>=_}
 use Rattle.model.specs.Frame.{Line, Frame, carries}
 use Rattle.model.specs.Replay.{at-point, find}
-use Rattle.solver.specs.Base.{Has}
+use Rattle.solver.specs.Lists.{Has}
 
 -- how one block is replayed, by the statements at each of its points
 pub record Player (Env Stmt : Type 0) : Type 1 where

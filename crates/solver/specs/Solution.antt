@@ -11,11 +11,15 @@ use Rattle.model.specs.Answer.{Answer, refused, done}
 use Rattle.model.specs.Rounds.{put}
 use Rattle.model.specs.Frame.{Exit, Work, Frame, target, Outcome, goto, leave, work, enter, visit, opening}
 use Rattle.model.specs.Passes.{absorb, Store, empty, keep, unwait, merge, arrive, take-in, round, load, solve, infer}
-use Rattle.solver.specs.Base.{split, option, answer, clash, put-other, Has, has-map, All, all-none, all-more, all-of}
+use Rattle.base.specs.Tests.{split, split-option, clash}
+use Rattle.base.specs.Answer.{split-answer}
+use Rattle.base.specs.Each.{Each, each-none, each-more}
+use Rattle.solver.specs.Lists.{put-other, Has, each-of}
 use Rattle.solver.specs.Loop.{Falls, run-ends}
 use Rattle.solver.specs.Laws.{Good, Lattice, Bodies, Edges}
-use Rattle.solver.specs.Outcome.{Each, each-over, each-stop, each-into, each-say, each-meet, Calm, each-map, calm-map, each-next, each-says}
-use Rattle.solver.specs.Termination.{Covers, Sound, Fair, Grew, visit-each, opening-each, covers-grew, take-law, Turned, round-law, rest-law, turned-took, solve-falls}
+use Rattle.solver.specs.Outcome.{Every, every-over, every-stop, every-into, every-say, every-meet, Calm, every-map, calm-map, every-next, every-says}
+use Rattle.solver.specs.Arrivals.{exit-listed, Fair, visit-fair, opening-fair}
+use Rattle.solver.specs.Termination.{Covers, Sound, Grew, covers-grew, take-law, Turned, round-law, rest-law, turned-took, solve-falls}
 
 module _ {Env Stmt : Type 0} (F : Frame Env Stmt) where
   -- from the block b the join point c is reached, by blocks that are none
@@ -37,56 +41,55 @@ module _ {Env Stmt : Type 0} (F : Frame Env Stmt) where
 
 module _ {Env Stmt : Type 0} {F : Frame Env Stmt} {Ok : Env → Type 0} (B : Bodies F Ok) where
   -- the arrivals of a visit are where the graph leads
-  goto-leads : {go : ℕ → Env → Outcome Env Stmt} → ((c : ℕ) (D : Env) → Each (λ x. Leads F c (x .block)) (go c D))
-      → {b : ℕ} (x : Exit Env) → Has (target x) (F .targets b) → Each (λ y. Leads F b (y .block)) (goto F go x)
+  goto-leads : {go : ℕ → Env → Outcome Env Stmt} → ((c : ℕ) (D : Env) → Every (λ x. Leads F c (x .block)) (go c D))
+      → {b : ℕ} (x : Exit Env) → Has (target x) (F .targets b) → Every (λ y. Leads F b (y .block)) (goto F go x)
   unfolding goto
   goto-leads {go} f {b} x h = split (F .join-point (x .block))
-      (λ e. rw (e, goto) (each-meet (leads-to h e) each-over))
-      (λ e. rw (e, goto) (each-map (λ y l. leads-on h e l) (f (x .block) (x .state))))
+      (λ e. rw (e, goto) (every-meet (leads-to h e) every-over))
+      (λ e. rw (e, goto) (every-map (λ y l. leads-on h e l) (f (x .block) (x .state))))
 
-  leave-leads : {go : ℕ → Env → Outcome Env Stmt} → ((c : ℕ) (D : Env) → Each (λ x. Leads F c (x .block)) (go c D))
-      → {b : ℕ} {xs : List (Exit Env)} → All (λ x. Has (target x) (F .targets b)) xs → Each (λ y. Leads F b (y .block)) (leave F go xs)
+  -- those of all jumps of a block
+  leave-leads : {go : ℕ → Env → Outcome Env Stmt} → ((c : ℕ) (D : Env) → Every (λ x. Leads F c (x .block)) (go c D))
+      → {b : ℕ} {xs : List (Exit Env)} → Each (λ x. Has (target x) (F .targets b)) xs → Every (λ y. Leads F b (y .block)) (leave F go xs)
   unfolding leave
-  leave-leads f all-none = each-over
-  leave-leads f (all-more {a = x} h hs) = each-next (goto-leads f x h) (leave-leads f hs)
+  leave-leads f each-none = every-over
+  leave-leads f (each-more {a = x} h hs) = every-next (goto-leads f x h) (leave-leads f hs)
 
-  -- each exit of a block's run is by a listed target
-  pub exit-listed : {b : ℕ} {E : Env} {w : Work Env Stmt} → F .body b E ≡ done w → {x : Exit Env} → Has x (w .exits) → Has (target x) (F .targets b)
-  exit-listed e h = rw (B .listed e) at (has-map target h)
-
-  work-leads : {go : ℕ → Env → Outcome Env Stmt} → ((c : ℕ) (D : Env) → Each (λ x. Leads F c (x .block)) (go c D))
-      → {b : ℕ} {E : Env} (a : Answer (Work Env Stmt)) → F .body b E ≡ a → Each (λ y. Leads F b (y .block)) (work F go a)
+  -- those behind a block's own run
+  work-leads : {go : ℕ → Env → Outcome Env Stmt} → ((c : ℕ) (D : Env) → Every (λ x. Leads F c (x .block)) (go c D))
+      → {b : ℕ} {E : Env} (a : Answer (Work Env Stmt)) → F .body b E ≡ a → Every (λ y. Leads F b (y .block)) (work F go a)
   unfolding work
-  work-leads f (refused r) e = each-stop
-  work-leads f (done w) e = each-says (w .lines) (leave-leads f (all-of (w .exits) (λ x h. exit-listed e h)))
+  work-leads f (refused r) e = every-stop
+  work-leads f (done w) e = every-says (w .lines) (leave-leads f (each-of (w .exits) (λ x h. exit-listed B e h)))
 
   -- at any fuel
-  pub enter-leads : (n b : ℕ) (E : Env) → Each (λ y. Leads F b (y .block)) (enter F n b E)
+  pub enter-leads : (n b : ℕ) (E : Env) → Every (λ y. Leads F b (y .block)) (enter F n b E)
   unfolding enter
-  enter-leads zero b E = each-stop
-  enter-leads (suc n) b E = each-into (work-leads (enter-leads n) (F .body b E) refl)
+  enter-leads zero b E = every-stop
+  enter-leads (suc n) b E = every-into (work-leads (enter-leads n) (F .body b E) refl)
 
   -- of a visit
-  pub visit-leads : (b : ℕ) (E : Env) → Each (λ y. Leads F b (y .block)) (visit F b E)
+  pub visit-leads : (b : ℕ) (E : Env) → Every (λ y. Leads F b (y .block)) (visit F b E)
   unfolding visit
   visit-leads b E = enter-leads (F .blocks) b E
 
   -- of the opening: they are reached
-  pub opening-reach : (E : Env) → Each (λ y. Reach F (y .block)) (opening F E)
+  pub opening-reach : (E : Env) → Every (λ y. Reach F (y .block)) (opening F E)
   unfolding opening goto
   opening-reach E = split (F .join-point 0)
-      (λ e. rw (e, goto) (each-meet (reach-start e) each-over))
-      (λ e. rw (e, goto) (each-map (λ y l. reach-first e l) (visit-leads 0 E)))
+      (λ e. rw (e, goto) (every-meet (reach-start e) every-over))
+      (λ e. rw (e, goto) (every-map (λ y l. reach-first e l) (visit-leads 0 E)))
 
 -- an arrival leaves what is stored elsewhere
 module _ {Env Stmt : Type 0} (F : Frame Env Stmt) where
+  -- what is stored at another block stays when a state is stored
   keep-other : (s t : Store Env) (c : ℕ) (E : Env) (b : ℕ) → t ≡ keep c E s → eqb c b ≡ false → t .kept b ≡ s .kept b
   keep-other s t c E b z d = ap (λ u. u .kept b) z ∙ put-other (s .kept) c (some E) b d
 
   -- at another block
   pub arrive-other : (s t : Store Env) (x : Exit Env) (b : ℕ) → eqb (x .block) b ≡ false → arrive F x s ≡ done t → t .kept b ≡ s .kept b
   unfolding arrive merge
-  arrive-other s t x b d e = option (s .kept (x .block))
+  arrive-other s t x b d e = split-option (s .kept (x .block))
       (λ k. keep-other s t (x .block) (x .state) b (cc) d)
       (λ T k. split (F .room (F .join T (x .state)))
       (λ m. split (F .changed T (x .state))
@@ -96,6 +99,7 @@ module _ {Env Stmt : Type 0} (F : Frame Env Stmt) where
 
 -- a state is stored only where one was, or arrives
 module _ {Env Stmt : Type 0} (F : Frame Env Stmt) (P : ℕ → Type 0) where
+  -- by an arrival
   arrive-only : (s t : Store Env) (x : Exit Env) → ((b : ℕ) (S : Env) → s .kept b ≡ some S → P b) → P (x .block)
       → arrive F x s ≡ done t → (b : ℕ) (S : Env) → t .kept b ≡ some S → P b
   arrive-only s t x h p e b S q = split (eqb (x .block) b)
@@ -103,14 +107,14 @@ module _ {Env Stmt : Type 0} (F : Frame Env Stmt) (P : ℕ → Type 0) where
       (λ d. h b S (sym (arrive-other F s t x b d e) ∙ q))
 
   -- and so in taking in an outcome
-  pub take-only : (s t : Store Env) {o : Outcome Env Stmt} → ((b : ℕ) (S : Env) → s .kept b ≡ some S → P b) → Each (λ x. P (x .block)) o
+  pub take-only : (s t : Store Env) {o : Outcome Env Stmt} → ((b : ℕ) (S : Env) → s .kept b ≡ some S → P b) → Every (λ x. P (x .block)) o
       → take-in F o s ≡ done t → (b : ℕ) (S : Env) → t .kept b ≡ some S → P b
   unfolding take-in absorb
-  take-only s t h each-over e b S q = h b S (cc)
-  take-only s t h each-stop e b S q = clash (cc)
-  take-only s t h (each-into k) e b S q = take-only s t h k e b S q
-  take-only s t h (each-say k) e b S q = take-only s t h k e b S q
-  take-only s t h (each-meet {x} {o} p k) e b S q = answer (arrive F x s)
+  take-only s t h every-over e b S q = h b S (cc)
+  take-only s t h every-stop e b S q = clash (cc)
+  take-only s t h (every-into k) e b S q = take-only s t h k e b S q
+  take-only s t h (every-say k) e b S q = take-only s t h k e b S q
+  take-only s t h (every-meet {x} {o} p k) e b S q = split-answer (arrive F x s)
       (λ r d. clash (cc))
       (λ u d. take-only u t (arrive-only s u x h p d) k (cc) b S q)
 
@@ -135,13 +139,14 @@ module _ {Env Stmt : Type 0} (F : Frame Env Stmt) (Ok : Env → Type 0) where
 
   module _ (L : Lattice F Ok) (B : Bodies F Ok) (G : Edges F) where
     -- a fair arrival where the graph leads from a reached block
-    each-placed : {o : Outcome Env Stmt} → Each (Fair F Ok) o → Each (λ x. Reach F (x .block)) o → Each (λ x. Placed F (x .block)) o
-    each-placed each-over each-over = each-over
-    each-placed each-stop each-stop = each-stop
-    each-placed (each-into h) (each-into k) = each-into (each-placed h k)
-    each-placed (each-say h) (each-say k) = each-say (each-placed h k)
-    each-placed (each-meet f h) (each-meet r k) = each-meet (record { below = f .below; joins = f .joins; reach = r }) (each-placed h k)
+    every-placed : {o : Outcome Env Stmt} → Every (Fair F Ok) o → Every (λ x. Reach F (x .block)) o → Every (λ x. Placed F (x .block)) o
+    every-placed every-over every-over = every-over
+    every-placed every-stop every-stop = every-stop
+    every-placed (every-into h) (every-into k) = every-into (every-placed h k)
+    every-placed (every-say h) (every-say k) = every-say (every-placed h k)
+    every-placed (every-meet f h) (every-meet r k) = every-meet (record { below = f .below; joins = f .joins; reach = r }) (every-placed h k)
 
+    -- what is covered stays covered
     covered-grew : {s t : Store Env} {o : Outcome Env Stmt} → Grew F Ok s t → Calm (Covered (s .kept)) o → Calm (Covered (t .kept)) o
     covered-grew K h = calm-map (λ x c. covers-grew F Ok L K c) h
 
@@ -156,8 +161,8 @@ module _ {Env Stmt : Type 0} (F : Frame Env Stmt) (Ok : Env → Type 0) where
         record {
           sound = k .grew .sound;
           placed = take-only F (Placed F) (unwait b s) t (I .placed)
-              (each-placed (visit-each F Ok B G b S g)
-              (each-map (λ x l. reach-on ((I .placed b S (u .stored)) .reach) l) (visit-leads B b S)))
+              (every-placed (visit-fair F Ok B G b S g)
+              (every-map (λ x l. reach-on ((I .placed b S (u .stored)) .reach) l) (visit-leads B b S)))
               (u .took);
           opens = covered-grew (k .grew) (I .opens);
           visits = λ c T p w.
@@ -185,11 +190,11 @@ module _ {Env Stmt : Type 0} (F : Frame Env Stmt) (Ok : Env → Type 0) where
     -- after the opening
     pub partial-opens : {E : Env} {s : Store Env} → Good F Ok E → take-in F (opening F E) empty ≡ done s → Partial E s
     partial-opens {E} {s} g e =
-        let k = take-law F Ok L empty s empty-sound (opening-each F Ok B G E g) e in
+        let k = take-law F Ok L empty s empty-sound (opening-fair F Ok B G E g) e in
         let nothing : (b : ℕ) (S : Env) → (empty {Env = Env}) .kept b ≡ some S → Placed F b = λ b S p. clash (cc) in
         record {
           sound = k .grew .sound;
-          placed = take-only F (Placed F) empty s nothing (each-placed (opening-each F Ok B G E g) (opening-reach B E)) e;
+          placed = take-only F (Placed F) empty s nothing (every-placed (opening-fair F Ok B G E g) (opening-reach B E)) e;
           opens = k .calm;
           visits = λ b S p w. let q = k .grew .quiet b w in clash (cc (q .1));
         }
@@ -197,7 +202,7 @@ module _ {Env Stmt : Type 0} (F : Frame Env Stmt) (Ok : Env → Type 0) where
     -- THE SOLUTION: what an accepted first pass leaves
     pub infer-solves : {E : Env} {t : Store Env} → Good F Ok E → infer F E ≡ done t → Solution E (t .kept)
     unfolding infer solve
-    infer-solves {E} {t} g e = answer (take-in F (opening F E) empty)
+    infer-solves {E} {t} g e = split-answer (take-in F (opening F E) empty)
         (λ r d. clash (cc))
         (λ s d.
         let j : solve F s ≡ done t = cc in

@@ -1,22 +1,25 @@
 -- The first pass: what an arrival, a visit and a round do to the store; and that its fuel never runs out.
 use mathlib.Core.Path.{_≡_, refl, _∙_}
 use mathlib.Core.Bool.{true, false}
-use mathlib.Core.List.{List}
 use mathlib.Core.Option.{Option, none, some}
-use Prim.Native.Nat.{ℕ, zero, suc, _≤_, _<_}
+use Prim.Native.Nat.{ℕ, _≤_, _<_}
 use native.Mathlib.Omega.{arith}
 use lib.Dec.{eqb}
 use borrow.Author.Tests.{eqb-true}
-use Rattle.model.specs.Answer.{Answer, refused, done}
+use Rattle.model.specs.Answer.{done}
 use Rattle.model.specs.Rounds.{put, idle, turned, lowest}
-use Rattle.model.specs.Frame.{Exit, Work, Frame, target, Outcome, goto, leave, work, enter, visit, opening-exit, opening}
+use Rattle.model.specs.Frame.{Exit, Frame, Outcome, visit}
 use Rattle.model.specs.Passes.{absorb, Store, keep, unwait, merge, arrive, take-in, round, weigh, load, solve}
-use Rattle.solver.specs.Base.{split, option, answer, clash, put-same, put-other, sum-le, sum-fall, has-map, All, all-none, all-more, all-of}
-use Rattle.solver.specs.Order.{Above, above-trans, above-first, above-second}
+use Rattle.base.specs.Tests.{split, split-option, clash}
+use Rattle.base.specs.Answer.{split-answer}
+use Rattle.base.specs.Below.{sum-grows, sum-falls}
+use Rattle.base.specs.Order.{Above, above-trans, above-first, above-second}
+use Rattle.solver.specs.Lists.{put-same, put-other}
 use Rattle.solver.specs.Loop.{after, Falls, run-round}
 use Rattle.solver.specs.Lowest.{lowest-none, lowest-some}
 use Rattle.solver.specs.Laws.{Good, Lattice, Bodies, Edges}
-use Rattle.solver.specs.Outcome.{Each, each-over, each-stop, each-into, each-say, each-meet, Calm, calm-over, calm-into, calm-say, calm-meet, each-next, each-says}
+use Rattle.solver.specs.Outcome.{Every, every-over, every-stop, every-into, every-say, every-meet, Calm, calm-over, calm-into, calm-say, calm-meet}
+use Rattle.solver.specs.Arrivals.{Fair, visit-fair}
 
 -- a block has a stored state that is above E
 pub record Covers {Env Stmt : Type 0} (F : Frame Env Stmt) (Ok : Env → Type 0) (kept : ℕ → Option Env) (b : ℕ) (E : Env) : Type 0 where
@@ -32,12 +35,6 @@ module _ {Env Stmt : Type 0} (F : Frame Env Stmt) (Ok : Env → Type 0) where
     pub fine : (b : ℕ) (S : Env) → s .kept b ≡ some S → Good F Ok S
     pub known : (b : ℕ) → s .waits b ≡ true → (S : Env) × (s .kept b ≡ some S)
 
-  -- a good state arrives at a join point
-  pub record Fair (x : Exit Env) : Type 0 where
-    pub good : Good F Ok (x .state)
-    pub below : x .block < F .blocks
-    pub joins : F .join-point (x .block) ≡ true
-
   -- from s to t, by arrivals
   pub record Grew (s t : Store Env) : Type 0 where
     pub more : (b : ℕ) (S : Env) → s .kept b ≡ some S → Covers F Ok (t .kept) b S
@@ -45,48 +42,8 @@ module _ {Env Stmt : Type 0} (F : Frame Env Stmt) (Ok : Env → Type 0) where
     pub less : (b : ℕ) → weigh F (t .kept b) (t .waits b) ≤ weigh F (s .kept b) (s .waits b)
     pub sound : Sound t
 
-  module _ (B : Bodies F Ok) (G : Edges F) where
-    -- the arrivals of a visit from a good state are fair
-    goto-each : {go : ℕ → Env → Outcome Env Stmt} → ((b : ℕ) (E : Env) → Good F Ok E → Each Fair (go b E))
-        → (x : Exit Env) → Good F Ok (x .state) → x .block < F .blocks → Each Fair (goto F go x)
-    unfolding goto
-    goto-each {go} f x g l = split (F .join-point (x .block))
-        (λ e. rw (e, goto) (each-meet (record { good = g; below = l; joins = e }) each-over))
-        (λ e. rw (e, goto) (f (x .block) (x .state) g))
-
-    leave-each : {go : ℕ → Env → Outcome Env Stmt} → ((b : ℕ) (E : Env) → Good F Ok E → Each Fair (go b E))
-        → {xs : List (Exit Env)} → All (λ x. Good F Ok (x .state)) xs → All (λ x. x .block < F .blocks) xs → Each Fair (leave F go xs)
-    unfolding leave
-    leave-each f all-none all-none = each-over
-    leave-each {go} f (all-more {a = x} g gs) (all-more l ls) = each-next (goto-each f x g l) (leave-each f gs ls)
-
-    -- each exit is to a block
-    pub exits-below : {b : ℕ} {E : Env} {w : Work Env Stmt} → F .body b E ≡ done w → All (λ x. x .block < F .blocks) (w .exits)
-    exits-below {b} {E} {w} e = all-of (w .exits) (λ x h. G .below (rw (B .listed e) at (has-map target h)))
-
-    work-each : {go : ℕ → Env → Outcome Env Stmt} → ((b : ℕ) (E : Env) → Good F Ok E → Each Fair (go b E))
-        → {b : ℕ} {E : Env} (a : Answer (Work Env Stmt)) → F .body b E ≡ a → Good F Ok E → Each Fair (work F go a)
-    unfolding work
-    work-each f (refused r) e g = each-stop
-    work-each f (done w) e g = each-says (w .lines) (leave-each f (B .good g e) (exits-below e))
-
-    -- at any fuel
-    pub enter-each : (n b : ℕ) (E : Env) → Good F Ok E → Each Fair (enter F n b E)
-    unfolding enter
-    enter-each zero b E g = each-stop
-    enter-each (suc n) b E g = each-into (work-each (enter-each n) (F .body b E) refl g)
-
-    -- of a visit
-    pub visit-each : (b : ℕ) (E : Env) → Good F Ok E → Each Fair (visit F b E)
-    unfolding visit
-    visit-each b E g = enter-each (F .blocks) b E g
-
-    -- of the opening
-    pub opening-each : (E : Env) → Good F Ok E → Each Fair (opening F E)
-    unfolding opening
-    opening-each E g = goto-each visit-each (opening-exit F E) g (G .some-block)
-
   module _ (L : Lattice F Ok) where
+    -- a state is stored that is above E
     cover : {kept : ℕ → Option Env} {b : ℕ} {S E : Env} → kept b ≡ some S → Ok S → Ok E → Above (F .join) S E → Covers F Ok kept b E
     cover {S} p g h a = record { state = S; stored = p; good = g; ok = h; above = a }
 
@@ -149,6 +106,7 @@ module _ {Env Stmt : Type 0} (F : Frame Env Stmt) (Ok : Env → Type 0) where
       pub grew : Grew s t
       pub covers : Covers F Ok (t .kept) (x .block) (x .state)
 
+    -- of an arrival where a state is stored
     merge-law : (s t : Store Env) (x : Exit Env) (S : Env) → Sound s → Good F Ok (x .state) → s .kept (x .block) ≡ some S
         → merge F x S s ≡ done t → Taken s x t
     unfolding merge weigh put
@@ -176,7 +134,7 @@ module _ {Env Stmt : Type 0} (F : Frame Env Stmt) (Ok : Env → Type 0) where
     -- of any arrival
     pub arrive-law : (s t : Store Env) (x : Exit Env) → Sound s → Good F Ok (x .state) → arrive F x s ≡ done t → Taken s x t
     unfolding arrive weigh
-    arrive-law s t x H g e = option (s .kept (x .block))
+    arrive-law s t x H g e = split-option (s .kept (x .block))
         (λ p.
         let q : keep (x .block) (x .state) s ≡ t = cc in
         let l = L .bounded g in
@@ -192,13 +150,13 @@ module _ {Env Stmt : Type 0} (F : Frame Env Stmt) (Ok : Env → Type 0) where
       pub calm : Calm (λ x. Covers F Ok (t .kept) (x .block) (x .state)) o
 
     -- of an outcome
-    pub take-law : (s t : Store Env) {o : Outcome Env Stmt} → Sound s → Each Fair o → take-in F o s ≡ done t → Took s o t
+    pub take-law : (s t : Store Env) {o : Outcome Env Stmt} → Sound s → Every (Fair F Ok) o → take-in F o s ≡ done t → Took s o t
     unfolding take-in absorb
-    take-law s t H each-over e = let q : s ≡ t = cc in rw (← q) (record { grew = grew-refl H; calm = calm-over })
-    take-law s t H each-stop e = clash (cc)
-    take-law s t H (each-into h) e = let k = take-law s t H h e in record { grew = k .grew; calm = calm-into (k .calm) }
-    take-law s t H (each-say h) e = let k = take-law s t H h e in record { grew = k .grew; calm = calm-say (k .calm) }
-    take-law s t H (each-meet {x} {o} f h) e = answer (arrive F x s)
+    take-law s t H every-over e = let q : s ≡ t = cc in rw (← q) (record { grew = grew-refl H; calm = calm-over })
+    take-law s t H every-stop e = clash (cc)
+    take-law s t H (every-into h) e = let k = take-law s t H h e in record { grew = k .grew; calm = calm-into (k .calm) }
+    take-law s t H (every-say h) e = let k = take-law s t H h e in record { grew = k .grew; calm = calm-say (k .calm) }
+    take-law s t H (every-meet {x} {o} f h) e = split-answer (arrive F x s)
         (λ r d. clash (cc))
         (λ u d.
         let a = arrive-law s u x H (f .good) d in
@@ -217,24 +175,24 @@ module _ {Env Stmt : Type 0} (F : Frame Env Stmt) (Ok : Env → Type 0) where
     -- a round that goes on has popped a block and visited it
     pub round-law : (s t : Store Env) → round F s ≡ turned t → Turned s t
     unfolding round
-    round-law s t e = option (lowest (F .rank) (s .waits) (F .blocks))
+    round-law s t e = split-option (lowest (F .rank) (s .waits) (F .blocks))
         (λ p. clash (cc))
         (λ b p.
         let w = lowest-some (F .rank) (s .waits) (F .blocks) b p in
-        option (s .kept b)
+        split-option (s .kept b)
         (λ q. clash (cc))
-        (λ S q. answer (take-in F (visit F b S) (unwait b s))
+        (λ S q. split-answer (take-in F (visit F b S) (unwait b s))
         (λ r d. clash (cc))
         (λ u d. record { block = b; state = S; below = w .0; waited = w .1; stored = q; took = cc })))
 
     -- at rest, nothing waits
     pub rest-law : (s : Store Env) → round F s ≡ idle → (b : ℕ) → b < F .blocks → s .waits b ≡ false
     unfolding round
-    rest-law s e = option (lowest (F .rank) (s .waits) (F .blocks))
+    rest-law s e = split-option (lowest (F .rank) (s .waits) (F .blocks))
         (λ p. lowest-none (F .rank) (s .waits) (F .blocks) p)
-        (λ b p. option (s .kept b)
+        (λ b p. split-option (s .kept b)
         (λ q. clash (cc))
-        (λ S q. answer (take-in F (visit F b S) (unwait b s)) (λ r d. clash (cc)) (λ u d. clash (cc))))
+        (λ S q. split-answer (take-in F (visit F b S) (unwait b s)) (λ r d. clash (cc)) (λ u d. clash (cc))))
 
     -- a popped block waits no more
     pub unwait-sound : {s : Store Env} (b : ℕ) → Sound s → Sound (unwait b s)
@@ -244,6 +202,7 @@ module _ {Env Stmt : Type 0} (F : Frame Env Stmt) (Ok : Env → Type 0) where
       known = λ c p. split (eqb b c) (λ e. clash (cc)) (λ e. H .known c (cc));
     }
 
+    -- a block weighs more while it waits
     weigh-wait : (o : Option Env) → weigh F o false < weigh F o true
     unfolding weigh
     weigh-wait none = omega arith
@@ -252,9 +211,9 @@ module _ {Env Stmt : Type 0} (F : Frame Env Stmt) (Ok : Env → Type 0) where
     -- a popped block lightens the load
     unwait-load : (s : Store Env) (b : ℕ) → b < F .blocks → s .waits b ≡ true → load F (unwait b s) < load F s
     unfolding load
-    unwait-load s b l w = sum-fall (λ c. weigh F (s .kept c) (put (s .waits) b false c)) (λ c. weigh F (s .kept c) (s .waits c)) (F .blocks) b l
+    unwait-load s b l w = sum-falls (λ c. weigh F (s .kept c) (put (s .waits) b false c)) (λ c. weigh F (s .kept c) (s .waits c)) (F .blocks) b l
         (rw (put-same (s .waits) b false, w) (weigh-wait (s .kept b)))
-        (λ c. split (eqb b c)
+        (λ c m. split (eqb b c)
         (λ e.
         let q = eqb-true b c e in
         let k : put (s .waits) b false c ≡ false = cc (put-same (s .waits) b false) in
@@ -262,15 +221,16 @@ module _ {Env Stmt : Type 0} (F : Frame Env Stmt) (Ok : Env → Type 0) where
         rw (k, j) (omega (arith, weigh-wait (s .kept c))))
         (λ e. rw (put-other (s .waits) b false c e) (omega arith)))
 
+    -- arrivals do not add to the load
     grew-load : {s t : Store Env} → Grew s t → load F t ≤ load F s
     unfolding load
-    grew-load {s} {t} K = sum-le (λ b. weigh F (t .kept b) (t .waits b)) (λ b. weigh F (s .kept b) (s .waits b)) (F .blocks) (K .less)
+    grew-load {s} {t} K = sum-grows (λ b. weigh F (t .kept b) (t .waits b)) (λ b. weigh F (s .kept b) (s .waits b)) (F .blocks) (λ b m. K .less b)
 
     module _ (B : Bodies F Ok) (G : Edges F) where
       -- a round, as growth after a pop
       pub turned-took : {s t : Store Env} → Sound s → (u : Turned s t) → Took (unwait (u .block) s) (visit F (u .block) (u .state)) t
       turned-took {s} {t} H u = take-law (unwait (u .block) s) t (unwait-sound (u .block) H)
-          (visit-each B G (u .block) (u .state) (H .fine (u .block) (u .state) (u .stored))) (u .took)
+          (visit-fair F Ok B G (u .block) (u .state) (H .fine (u .block) (u .state) (u .stored))) (u .took)
 
       -- TERMINATION: every round lightens the load
       pub solve-falls : Falls (round F) Sound (load F)

@@ -7,7 +7,8 @@ use Prim.Native.Nat.{ℕ}
 use Rattle.model.specs.Answer.{done}
 use Rattle.model.specs.Frame.{Line, Frame, carries}
 use Rattle.model.specs.Passes.{Store, infer, Log, Found, analyse}
-use Rattle.solver.specs.Base.{answer, clash}
+use Rattle.base.specs.Tests.{clash}
+use Rattle.base.specs.Answer.{split-answer}
 use Rattle.solver.specs.Player.{Player, script, replay, Path}
 use Rattle.solver.specs.Laws.{Good, Lawful}
 use Rattle.solver.specs.Solution.{Solution, infer-solves}
@@ -49,7 +50,7 @@ module _ {Env Stmt : Type 0} (F : Frame Env Stmt) (Ok : Env → Type 0) (owner :
   -- an accepted analysis has both passes accepted
   pub accepted-made : {r : Found Env Stmt} → analyse F ts E₀ ≡ done r → Made r
   unfolding analyse
-  accepted-made {r} a = answer (infer F E₀)
+  accepted-made {r} a = split-answer (infer F E₀)
       (λ k e. clash (cc))
       (λ s e.
       let (q, d, p, M) = second-accepted e in

@@ -9,11 +9,11 @@ use borrow.Author.Needs.{needs}
 use borrow.Author.Tests.{not-true, not-false}
 use Rattle.model.specs.Function.{nblocks, nitems, start, op}
 use Rattle.model.specs.Block.{root-before, spot-before, uses-place, latest-note}
-use Rattle.graph.specs.Ranges.{Holds, stop-most}
+use Rattle.graph.specs.Ranges.{Holds}
 use Rattle.mir.specs.Sizes.{Formed}
 use Rattle.blocks.specs.Points.{matched-read, switch-item, item-of}
 use Rattle.blocks.specs.declared.matching.Item.the-variants.{At, Nowhere}
-use Rattle.blocks.proofs.Spots.{formed-accepted}
+use Rattle.blocks.proofs.Spots.{block-stop}
 use Rattle.blocks.proofs.Points.{matched-none, matched-bare, matched-plain, matched-note, switch-holds, note-holds, read-matched}
 use Rattle.blocks.proofs.matching.matched.Statement.{statement}
 use Rattle.blocks.proofs.matching.matched.Tie as tie
@@ -47,7 +47,7 @@ module _ {fn : List ℕ} {b s : ℕ} (S : Switch fn b s) where
   holds = switch-holds (S .formed) (S .block) (S .is) .0
 
   below : s < nitems fn
-  below = omega (arith, holds .high, stop-most (formed-accepted (S .formed)) (S .block))
+  below = omega (arith, holds .high, block-stop (S .formed) (S .block))
 
   bare : uses-place fn s ≡ false → Nowhere ≡ item-of (matched-read fn b)
   bare u = sym (ap item-of (matched-bare fn b (S .is) u))
@@ -63,7 +63,7 @@ module _ {fn : List ℕ} {b j : ℕ} (N : Note fn b j) where
   note-in = note-holds (N .at .formed) (N .at .block) (holds (N .at)) (N .is)
 
   note-below : j < nitems fn
-  note-below = omega (arith, note-in .0 .high, stop-most (formed-accepted (N .at .formed)) (N .at .block))
+  note-below = omega (arith, note-in .0 .high, block-stop (N .at .formed) (N .at .block))
 
   behind-read : 1 ≤ root-before fn j
   behind-read = read-matched (N .at .formed) (N .at .block) (note-in .0) (note-in .1) .0

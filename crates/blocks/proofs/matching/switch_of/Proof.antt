@@ -1,8 +1,9 @@
 -- `blocks::matching::switch_of` meets its contract: the block's first switch is the first from i on. Assumes nothing.
 use mathlib.Core.Path.{_≡_, sym, ap, _∙_}
+use mathlib.Core.Bool.{Bool}
 use mathlib.Core.List.{List}
 use mathlib.Core.Option.{Option}
-use Prim.Native.Nat.{ℕ, _+_, _-_, _≤_, _<_}
+use Prim.Native.Nat.{ℕ, suc, _+_, _-_, _≤_, _<_}
 use native.Mathlib.Numerals.{add-one}
 use native.Mathlib.Omega.{arith}
 use borrow.Author.Needs.{needs}
@@ -10,11 +11,10 @@ use borrow.Author.Tests.{eq-eqb, ne-eqb}
 use lib.Dec.{eqb}
 use Rattle.model.specs.Words.{collect-from}
 use Rattle.model.specs.Function.{start, stop, op}
-use Rattle.graph.specs.Tests.{collect-at, collect-past, collect-over}
-use Rattle.graph.specs.Ranges.{stop-most}
+use Rattle.base.specs.Collected.{collect-zero, collect-pass, collect-fail}
 use Rattle.blocks.specs.Points.{switch-item, item-of}
 use Rattle.blocks.specs.declared.matching.Item.the-variants.{At, Nowhere}
-use Rattle.blocks.proofs.Spots.{formed-accepted}
+use Rattle.blocks.proofs.Spots.{block-stop}
 use Rattle.blocks.proofs.Points.{first}
 use Rattle.blocks.proofs.matching.switch_of.Statement.{statement}
 use Rattle.blocks.proofs.matching.switch_of.Tie as tie
@@ -27,16 +27,29 @@ from-start : (fn : List ℕ) (b t i : ℕ) → t ≡ stop fn b → i ≡ start f
 unfolding switch-item
 from-start fn b t i e f = rw (e, f)
 
+-- how many items are left: none, or one and those behind it
+over : (t i : ℕ) → t ≤ i → t - i ≡ 0
+over t i l = omega arith
+
+further : (t i : ℕ) → i < t → t - i ≡ suc (t - suc i)
+further t i l = omega arith
+
 module _ (fn : List ℕ) (b t i : ℕ) (h : switch-item fn b ≡ switch-from fn t i) where
+  abbrev is-switch : ℕ → Bool
+  is-switch x = eqb (op fn x) 8
+
+  abbrev left : ℕ → List ℕ
+  left n = collect-from is-switch (λ x. x) n i
+
   none-left : t ≤ i → Nowhere ≡ item-of (switch-item fn b)
-  none-left l = sym (ap item-of (h ∙ ap first (collect-over (λ x. eqb (op fn x) 8) (λ x. x) t i l)))
+  none-left l = sym (ap item-of (h ∙ ap first (ap left (over t i l) ∙ collect-zero is-switch (λ x. x) i)))
 
   module _ (l : i < t) (o : ℕ) (e : o ≡ op fn i) where
     found : o ≡ 8 → At i ≡ item-of (switch-item fn b)
-    found z = sym (ap item-of (h ∙ ap first (collect-at (λ x. eqb (op fn x) 8) (λ x. x) t i l (eq-eqb (op fn i) 8 (sym e ∙ z)))))
+    found z = sym (ap item-of (h ∙ ap first (ap left (further t i l) ∙ collect-pass is-switch (λ x. x) (t - suc i) i (eq-eqb (op fn i) 8 (sym e ∙ z)))))
 
     onward : (o ≡ 8 → ⊥) → switch-item fn b ≡ switch-from fn t (i + 1)
-    onward d = rw add-one (h ∙ ap first (collect-past (λ x. eqb (op fn x) 8) (λ x. x) t i l (ne-eqb (op fn i) 8 (λ z. d (e ∙ z)))))
+    onward d = rw add-one (h ∙ ap first (ap left (further t i l) ∙ collect-fail is-switch (λ x. x) (t - suc i) i (ne-eqb (op fn i) 8 (λ z. d (e ∙ z)))))
 
 abbrev Inv-loop : tie.InvT-loop
 Inv-loop fun b e i₀ i = switch-item fun b ≡ switch-from fun e i
@@ -56,7 +69,7 @@ loop-holds c = from-start _ _ (c .before .stop-of .result) (c .start-of .result)
 op-of-requires : tie.Need-op-of-requires Inv-loop μ-loop
 op-of-requires c κs =
     let s = c .before .before .before .before .before in
-    (s .pre .0 .laid, omega (arith, c .before .before .before .stop-of .ensures, stop-most (formed-accepted (s .pre .0)) (s .pre .1)))
+    (s .pre .0 .laid, omega (arith, c .before .before .before .stop-of .ensures, block-stop (s .pre .0) (s .pre .1)))
 
 returns : tie.Need-returns Inv-loop μ-loop
 returns c =
@@ -67,7 +80,7 @@ returns c =
 add-i : tie.Need-add-i Inv-loop μ-loop
 add-i c =
     let s = c .before .before .before .before .before .before .before in
-    omega (arith, c .before .before .before .before .before .stop-of .ensures, stop-most (formed-accepted (s .pre .0)) (s .pre .1), s .pre .0)
+    omega (arith, c .before .before .before .before .before .stop-of .ensures, block-stop (s .pre .0) (s .pre .1), s .pre .0)
 
 loop-less : tie.Need-loop-less Inv-loop μ-loop
 loop-less c = search needs

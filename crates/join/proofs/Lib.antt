@@ -1,0 +1,8 @@
+-- What the proofs of join share.
+pub mod Reading
+pub mod Outs
+pub mod Settles
+pub mod Joins
+pub mod Passing
+pub mod Joined
+pub mod Called

@@ -1,0 +1,3 @@
+-- What the contracts of join cite beside the definitions of model.
+pub mod Ends
+pub mod Answers
