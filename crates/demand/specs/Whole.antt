@@ -18,7 +18,7 @@ use Rattle.model.specs.Frame.{carries}
 use Rattle.model.specs.Passes.{Store, infer, Found}
 use Rattle.model.specs.Measure.{ceiling}
 use Rattle.model.specs.Body.{enter-uses, frame}
-use Rattle.model.specs.Record.{entries, statement-record, lent}
+use Rattle.model.specs.Record.{entries, statement-record, lent, writable}
 use Rattle.model.specs.Whole.{passes, ghost-statements, with-buffer, accepted, denied, result, shorter, found, whole}
 use Rattle.model.specs.Replay.{Replayed}
 use Rattle.base.specs.Tests.{split, clash}
@@ -120,7 +120,7 @@ ghost-passed Γ fn store {r} e = split (types-ok Γ)
 -- the statement buffer is large enough, or the call is refused
 buffer-same : (fn : List ℕ) (n : ℕ) (s : Found Forest At) {r : Found Forest At} → with-buffer fn n s ≡ done r → s ≡ r
 unfolding with-buffer
-buffer-same fn n s e = split (leb (2 + 2 * length (entries (entry-point fn) (s .lines))) n) (λ d. cc) (λ d. clash (cc))
+buffer-same fn n s e = split (writable n (entries (entry-point fn) (s .lines))) (λ d. cc) (λ d. clash (cc))
 
 module _ (Γ fn : List ℕ) (nforms nwhats nout : ℕ) where
   -- the same with the statement buffer

@@ -50,7 +50,7 @@ unfolding
     Body.enter-uses Body.use-at Body.pass-stations Body.variants-from Body.variants Body.variant-of Body.without Body.only
     Body.choice Body.open-variant Body.match-targets Body.exits-of Body.ret-lines Body.body Body.frame
     Record.elem-entry Record.verb-entry Record.point-entry Record.line-entries Record.entries Record.statement-record
-    Record.lent Record.gather-one Record.gather Record.recorded
+    Record.writable Record.lent Record.gather-one Record.gather Record.recorded
     Whole.passes Whole.ghost-statements Whole.with-buffer Whole.share Whole.joined Whole.shares Whole.accepted Whole.denied
     Whole.result Whole.shorter Whole.found Whole.whole
     Calls.typed Calls.taken Calls.elems-of Calls.spot-of Calls.placed Calls.recorded-verb Calls.recorded-as

@@ -15,7 +15,7 @@ use Rattle.model.specs.Walk.{projection, downcasting, carry-at, fitting}
 use Rattle.model.specs.Collect.{collects, unfoldss, folds-at-ret}
 use Rattle.model.specs.Block.{elem-of}
 use Rattle.model.specs.Frame.{Line, mark}
-use Rattle.model.specs.Record.{entries, statement-record}
+use Rattle.model.specs.Record.{entries, statement-record, writable}
 
 -- THE INPUT
 
@@ -94,7 +94,7 @@ module _ (Γ locals : List ℕ) where
 
   -- a collecting call's record, in a lent buffer of n words: every point is the entry
   unfoldable pub written : ℕ → List At → Answer (List ℕ)
-  written n as′ = require (leb (2 + 2 * length (entries 0 (mark 0 as′))) n) 10 λ _. done (statement-record 0 (mark 0 as′))
+  written n as′ = require (writable n (entries 0 (mark 0 as′))) 10 λ _. done (statement-record 0 (mark 0 as′))
 
   unfoldable pub call-collect : State → State → ℕ → Answer (List ℕ)
   call-collect s e n = typed Γ locals λ _. taken Γ locals s λ S. taken Γ locals e λ E. collects Γ S E >>= written n

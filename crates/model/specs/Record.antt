@@ -1,10 +1,10 @@
 -- The statement record: statement count, entry count, op[], arg[]; per statement 13 (before item arg) or 14 (entry, arg 0), then
 -- 15 fold or 16 unfold, then the place. Written, and read back.
-use mathlib.Core.Bool.{Bool, true, false, cond}
+use mathlib.Core.Bool.{Bool, true, false, cond, _&&_}
 use mathlib.Core.List.{List, [], _∷_, _++_, map}
-use Prim.Native.Nat.{ℕ, zero, suc, _+_, _*_, _-_}
+use Prim.Native.Nat.{ℕ, zero, suc, _+_, _*_, _-_, _^_}
 use lib.ListN.{length, take, drop, replicate}
-use lib.Dec.{eqb, leb}
+use lib.Dec.{eqb, ltb, leb}
 use Rattle.model.specs.Words.{word}
 use Rattle.model.specs.State.{pairs}
 use Rattle.model.specs.Place.{Elem, deref, field, downcast, index, Place, Verb, Fold, Unfold, At}
@@ -42,6 +42,10 @@ unfoldable pub statement-record : ℕ → List (Line At) → List ℕ
 statement-record entry ls =
     let es = entries entry ls in
     length ls ∷ length es ∷ (map (λ e. e .0) es ++ map (λ e. e .1) es)
+
+-- a record of these entries goes into a buffer of n words: there is room, and a word can hold their number (else 10)
+unfoldable pub writable : ℕ → List Entry → Bool
+writable n es = leb (2 + 2 * length es) n && ltb (length es) (2 ^ 32)
 
 -- a list in a lent array of n words: zeros behind it
 unfoldable pub lent : ℕ → List ℕ → List ℕ

@@ -17,7 +17,7 @@ use Rattle.model.specs.Block.{places-ok, entry-uses, entry-point, is-joi
 use Rattle.model.specs.Frame.{Line}
 use Rattle.model.specs.Passes.{Found, analyse}
 use Rattle.model.specs.Body.{enter-uses, frame}
-use Rattle.model.specs.Record.{entries, statement-record, lent}
+use Rattle.model.specs.Record.{entries, statement-record, writable, lent}
 
 -- both passes, of records that pass: from the state that the entry's uses leave
 unfoldable pub passes : List ℕ → List ℕ → Answer (Found Forest At)
@@ -30,7 +30,7 @@ ghost-statements Γ fn store = require (types-ok Γ) 1 λ _. require (function-o
 
 -- "A short statement buffer is found last"
 unfoldable pub with-buffer : List ℕ → ℕ → Found Forest At → Answer (Found Forest At)
-with-buffer fn buffer f = require (leb (2 + 2 * length (entries (entry-point fn) (f .lines))) buffer) 10 λ _. done f
+with-buffer fn buffer f = require (writable buffer (entries (entry-point fn) (f .lines))) 10 λ _. done f
 
 -- a share: the block's final state, or zeros if none arrived
 unfoldable pub share : List ℕ → (State → List ℕ) → Option Forest → List ℕ
