@@ -1,0 +1,2 @@
+-- What the proofs of queue share.
+mod Lowest

@@ -1,0 +1,2 @@
+-- What the contracts of queue cite beside the definitions of model.
+pub mod Popped

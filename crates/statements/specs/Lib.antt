@@ -1,0 +1,3 @@
+-- What the contracts of statements cite beside the definitions of model.
+pub mod Kept
+pub mod Moved

@@ -1,0 +1,170 @@
+// The statement record in a lent buffer: statement count, entry count, op[], arg[]. While it grows, ops stand from word 2 on and
+// args from the middle on; at the end the args move down. Entries for which there is no room are not told from one another.
+ghost use mathlib.Core.Path.{_≡_};
+ghost use mathlib.Core.List.{List, [], _∷_};
+ghost use Prim.Native.Nat.{ℕ, _+_, _%_, _≤_};
+ghost use lib.ListN.{length, take, replicate};
+ghost use Rattle.model.specs.State.{pairs};
+ghost use Rattle.model.specs.Record.{Entry};
+ghost use Rattle.statements.specs.Kept.{room, Counted, Puts, Finished};
+ghost use Rattle.statements.specs.Moved.{closed, cleared};
+
+// What is recorded so far.
+pub struct Out {
+    pub statements: usize,
+    pub entries: usize,
+}
+
+// How many entries a buffer of n words has room for.
+fn room(n: usize) -> usize
+    ensures { λ r. ⌜ r ≡ room n ⌝ }
+{
+    if n < 2 { 0 } else { (n - 2) / 2 }
+}
+
+// One entry more.
+fn put(out: &mut [u32], o: Out, op: u32, arg: u32) -> Out
+    requires { ⌜ Counted (now out) o ⌝ }
+    ensures { λ r. ⌜ Puts 0 (now (out .entry)) o (now (out .exit)) r ((op, arg) ∷ []) ⌝ }
+{
+    let n = out.len();
+    let r = room(n);
+    let k = o.entries;
+    if r <= k {
+        return Out {
+            statements: o.statements,
+            entries: r + 1,
+        };
+    }
+    out[2 + k] = op;
+    out[2 + r + k] = arg;
+    Out {
+        statements: o.statements,
+        entries: k + 1,
+    }
+}
+
+// The first n items.
+fn put_items(out: &mut [u32], o: Out, ops: &[u32], args: &[u32], n: usize) -> Out
+    requires { ⌜ Counted (now out) o ⌝ }
+    requires { ⌜ (n ≤ length (now ops)) × (n ≤ length (now args)) ⌝ }
+    ensures { λ r. ⌜ Puts 0 (now (out .entry)) o (now (out .exit)) r (pairs (take n (now (ops .entry))) (take n (now (args .entry)))) ⌝ }
+{
+    let mut p = o;
+    let mut j = 0;
+    while j < n {
+        p = put(out, p, ops[j], args[j]);
+        j += 1;
+    }
+    p
+}
+
+pub const BEFORE: u32 = 13;
+
+pub const ENTRY: u32 = 14;
+
+pub const FOLD: u32 = 15;
+
+pub const UNFOLD: u32 = 16;
+
+// A point: an item, or the entry.
+pub struct Point {
+    pub op: u32,
+    pub arg: u32,
+}
+
+// One statement: its point, its verb, the first n items of its place.
+pub fn record(
+    out: &mut [u32],
+    o: Out,
+    p: Point,
+    verb: u32,
+    ops: &[u32],
+    args: &[u32],
+    n: usize,
+) -> Out
+    requires { ⌜ Counted (now out) o ⌝ }
+    requires { ⌜ (n ≤ length (now ops)) × (n ≤ length (now args)) ⌝ }
+    ensures { λ r. ⌜ Puts 1 (now (out .entry)) o (now (out .exit)) r ((p .op, p .arg) ∷ (verb, 0) ∷ pairs (take n (now (ops .entry))) (take n (now (args .entry)))) ⌝ }
+{
+    let a = put(out, o, p.op, p.arg);
+    let b = put(out, a, verb, 0);
+    let c = put_items(out, b, ops, args, n);
+    let k = out.len();
+    if room(k) < c.entries {
+        return Out {
+            statements: o.statements,
+            entries: c.entries,
+        };
+    }
+    Out {
+        statements: o.statements + 1,
+        entries: c.entries,
+    }
+}
+
+// A number as a word.
+fn small(n: usize) -> u32
+    ensures { λ r. ⌜ r ≡ n % 4294967296 ⌝ }
+{
+    (n % 4294967296) as u32
+}
+
+// Zeros from a word on.
+fn clear(out: &mut [u32], from: usize)
+    requires { ⌜ from ≤ length (now out) ⌝ }
+    ensures { λ r. ⌜ now (out .exit) ≡ cleared (now (out .entry)) from ⌝ }
+{
+    let n = out.len();
+    let mut i = from;
+    while i < n {
+        out[i] = 0;
+        i += 1;
+    }
+}
+
+// All zeros.
+pub fn wipe(out: &mut [u32])
+    ensures { λ r. ⌜ now (out .exit) ≡ replicate (length (now (out .entry))) 0 ⌝ }
+{
+    clear(out, 0);
+}
+
+// The args move down behind the first e ops.
+fn close_up(out: &mut [u32], r: usize, e: usize)
+    requires { ⌜ (e ≤ r) × (2 + r + e ≤ length (now out)) ⌝ }
+    ensures { λ x. ⌜ now (out .exit) ≡ closed (now (out .entry)) r e ⌝ }
+{
+    let mut k = 0;
+    while k < e {
+        out[2 + e + k] = out[2 + r + k];
+        k += 1;
+    }
+}
+
+// The record is finished: false, and all zeros, if it cannot be written.
+pub fn finish(out: &mut [u32], o: Out) -> bool
+    requires { ⌜ Counted (now out) o ⌝ }
+    ensures { λ r. ⌜ ((k : ℕ) (es : List Entry) → Finished k es (now (out .entry)) o (now (out .exit)) r) ⌝ }
+{
+    let n = out.len();
+    let r = room(n);
+    let e = o.entries;
+    if n < 2 {
+        wipe(out);
+        return false;
+    }
+    if r < e {
+        wipe(out);
+        return false;
+    }
+    if 4294967296 <= e {
+        wipe(out);
+        return false;
+    }
+    close_up(out, r, e);
+    clear(out, 2 + e + e);
+    out[0] = small(o.statements);
+    out[1] = small(e);
+    true
+}

@@ -1,0 +1,78 @@
+-- What a walk along a place finds: how far open nodes lead (`Passes`), and where it ends (`Walks`). The place is said by items
+-- from the second on; the first is the root.
+use mathlib.Core.Path.{_≡_}
+use mathlib.Core.Logic.{_≢_}
+use mathlib.Core.Bool.{true}
+use mathlib.Core.List.{List}
+use mathlib.Core.Option.{some}
+use Prim.Native.Nat.{ℕ, suc, _+_, _-_, _<_, _≤_}
+use lib.ListN.{length}
+use Rattle.model.specs.Words.{word}
+use Rattle.model.specs.Answer.{Answer, refused}
+use Rattle.model.specs.Types.{ntypes}
+use Rattle.model.specs.Tree.{Tree, leaf, type}
+use Rattle.model.specs.Place.{Place, Spot, walked, stops}
+use Rattle.model.specs.Walk.{walk}
+use Rattle.model.specs.Calls.{spot-of}
+use Rattle.laws.specs.Places.{no-index}
+use Rattle.records.specs.Here.{Coded}
+use Rattle.walk.specs.Way.{route, Way}
+use Rattle.walk.specs.Fresh.{folded, sprout}
+use Rattle.walk.specs.declared.step.Opened.the-variants.{To as Came}
+use Rattle.walk.specs.declared.along.Passed.{Passed}
+use Rattle.walk.specs.declared.along.Passed.the-variants.{To, Refused}
+use Rattle.walk.specs.declared.along.Through.{Through}
+use Rattle.walk.specs.declared.along.Walk.{Walk}
+use Rattle.walk.specs.declared.along.Walked.{Walked}
+use Rattle.walk.specs.declared.along.Walked.the-variants.{To as Reached, Refused as Denied}
+
+-- the items are a place of 128 elements at the most
+pub record Short (ops args : List ℕ) : Type 0 where
+  pub spot : Spot
+  pub is : spot-of ops args ≡ some spot
+  pub short : length (spot .place) ≤ 128
+
+-- r is the number of the first index behind the root, or the length
+pub record Stopped (ops : List ℕ) (r : ℕ) : Type 0 where
+  pub least : 1 ≤ r
+  pub most : r ≤ length ops
+  pub before : (k : ℕ) → 1 ≤ k → k < r → word ops k ≢ 4
+  pub at : r < length ops → word ops r ≡ 4
+
+-- the elements from item i on
+abbrev pub rest : List ℕ → List ℕ → ℕ → Place
+rest ops args i = route ops args i (length ops - i)
+
+module _ (Γ fs ws ops args : List ℕ) where
+  -- open nodes lead from x, at i, along the items before item a, to a tree of type t, at n
+  pub record Midway (i : ℕ) (x : Tree) (a n t : ℕ) : Type 0 where
+    pub tree : Tree
+    pub here : Coded Γ fs ws n t tree
+    pub known : t < ntypes Γ
+    pub way : Way Γ (rest ops args 1) x (rest ops args a) tree
+    pub place : n ≡ i + length (way .frame .before)
+
+  -- and no further, or to the item e
+  pub record Passing (e i : ℕ) (x : Tree) (th : Through) : Type 0 where
+    pub midway : Midway i x (th .at) (th .node) (th .typ)
+    pub least : 1 ≤ th .at
+    pub most : th .at ≤ e
+    pub folded : th .at < e → midway .tree ≡ leaf (th .typ)
+
+  abbrev pub Passes : ℕ → ℕ → Tree → Passed → Type 0
+  Passes e i x (To th) = Passing e i x th
+  Passes e i x (Refused r) = (act : Tree → Answer Tree) → walk Γ act (rest ops args 1) x ≡ refused r
+
+  -- where the walk of p from x, at i, ends
+  pub record Site (i : ℕ) (p : Place) (x : Tree) (w : Walk) : Type 0 where
+    pub passing : Passing (w .walked) i x (record { at = w .passed; node = w .node; typ = w .typ })
+    pub within : w .walked ≤ length ops
+    pub far : w .walked ≡ suc (length (walked p))
+    pub plain : no-index (route ops args (w .passed) (w .walked - w .passed)) ≡ true
+    pub last : stops (rest ops args (w .walked)) ≡ true
+    pub fresh : sprout Γ (folded (w .typ) 0) (route ops args (w .passed) (w .walked - w .passed)) ≡ Came (w .fresh)
+    pub array : (z : Tree) → type z ≡ w .fresh .typ → (act : Tree → Answer Tree) → walk Γ act (rest ops args (w .walked)) z ≡ act z
+
+  abbrev pub Walks : ℕ → Place → Tree → Walked → Type 0
+  Walks i p x (Reached w) = Site i p x w
+  Walks i p x (Denied r) = (act : Tree → Answer Tree) → walk Γ act p x ≡ refused r

@@ -1,0 +1,188 @@
+// Carrying out what a walk has found: nodes opened on the way, a node folded.
+ghost use mathlib.Core.Path.{_≡_};
+ghost use mathlib.Core.Bool.{true, false};
+ghost use mathlib.Core.List.{List, _∷_, _++_};
+ghost use Prim.Native.Nat.{_+_, _-_, _<_, _≤_};
+ghost use lib.ListN.{length};
+ghost use Rattle.model.specs.Types.{ntypes, kind, form};
+ghost use Rattle.model.specs.Tree.{Tree, size};
+ghost use Rattle.model.specs.State.{Code, codes};
+ghost use Rattle.model.specs.Block.{elem-of};
+ghost use Rattle.laws.specs.Places.{no-index};
+ghost use Rattle.records.specs.Here.{Coded, Here};
+ghost use Rattle.type_record.specs.Sizes.{Sized, Ready};
+ghost use Rattle.walk.specs.Way.{route};
+ghost use Rattle.walk.specs.Fresh.{folded, sprout, distance, variant};
+ghost use Rattle.walk.specs.Applied.{Encoded, marked, Room, Penned, Opens, Carried};
+ghost use Rattle.walk.specs.declared.step.Fresh.{Fresh};
+ghost use Rattle.walk.specs.declared.step.Opened.the-variants.{To};
+use crate::along::Walk;
+use crate::step::DEREF;
+use crate::step::DOWNCAST;
+use crate::step::FIELD;
+use crate::step::Fresh;
+use crate::step::Opened;
+use crate::step::step_folded;
+use state::edit::replaced;
+use state::nodes::State;
+use state::nodes::node_end;
+use type_record::kinds::form_of;
+use type_record::record::kind_of;
+use type_record::record::wide;
+
+// How many nodes stand between a node that a step opens and the node that it leads to.
+fn distance(op: u32, arg: u32) -> usize
+    ensures { λ r. ⌜ r ≡ distance (elem-of op arg) ⌝ }
+{
+    match op {
+        DEREF => 1,
+        FIELD => 1 + wide(arg),
+        _ => 0,
+    }
+}
+
+// The variant at which a step opens a folded node.
+fn variant(op: u32, arg: u32) -> u16
+    requires { ⌜ variant (elem-of op arg) < 65536 ⌝ }
+    ensures { λ r. ⌜ r ≡ variant (elem-of op arg) ⌝ }
+{
+    if op == DOWNCAST {
+        (arg % 65536) as u16
+    } else {
+        0
+    }
+}
+
+// Writes the node that a step opens, at i; a node that is open stays.
+fn write_open(
+    types: &[u32],
+    f: Fresh,
+    op: u32,
+    arg: u32,
+    i: usize,
+    forms: &mut [u16],
+    whats: &mut [u16],
+)
+    requires { ⌜ Sized (now types) ⌝ }
+    requires { ⌜ f .typ < ntypes (now types) ⌝ }
+    requires { ⌜ variant (elem-of op arg) < 65536 ⌝ }
+    requires { ⌜ (i < length (now forms)) × (i < length (now whats)) ⌝ }
+    ensures { λ r. ⌜ (now (forms .exit) ≡ marked (f .opened) (now (forms .entry)) i (form (kind (now (types .entry)) (f .typ)))) × (now (whats .exit) ≡ marked (f .opened) (now (whats .entry)) i (variant (elem-of op arg))) ⌝ }
+{
+    if f.opened {
+        return;
+    }
+    let t = f.typ;
+    forms[i] = form_of(kind_of(types, t));
+    whats[i] = variant(op, arg);
+}
+
+// Where the writing has come to.
+struct Pen {
+    at: usize,
+    fresh: Fresh,
+}
+
+// Writes the nodes that the elements from..end open, the first at i, of type typ.
+fn write_path(
+    types: &[u32],
+    offs: &[u32],
+    ops: &[u32],
+    args: &[u32],
+    from: usize,
+    end: usize,
+    i: usize,
+    typ: usize,
+    forms: &mut [u16],
+    whats: &mut [u16],
+) -> Pen
+    requires { ⌜ Ready (now types) (now offs) ⌝ }
+    requires { ⌜ typ < ntypes (now types) ⌝ }
+    requires { ⌜ (from ≤ end) × (end ≤ length (now ops)) × (end ≤ length (now args)) × (end ≤ 256) ⌝ }
+    requires { ⌜ no-index (route (now ops) (now args) from (end - from)) ≡ true ⌝ }
+    requires { ⌜ Room (now types) (route (now ops) (now args) from (end - from)) typ i (now forms) (now whats) ⌝ }
+    ensures { λ r. ⌜ ((g : Fresh) → sprout (now (types .entry)) (folded typ 0) (route (now (ops .entry)) (now (args .entry)) from (end - from)) ≡ To g → Penned (now (types .entry)) (route (now (ops .entry)) (now (args .entry)) from (end - from)) typ i (now (forms .entry)) (now (whats .entry)) (now (forms .exit)) (now (whats .exit)) r g) ⌝ }
+{
+    let mut f = Fresh {
+        typ,
+        opened: false,
+        what: 0,
+        added: 0,
+    };
+    let mut p = i;
+    let mut at = from;
+    while at < end {
+        let op = ops[at];
+        let arg = args[at];
+        write_open(types, f, op, arg, p, forms, whats);
+        p += distance(op, arg);
+        let s = step_folded(types, offs, f, op, arg);
+        match s {
+            Opened::To(g) => {
+                f = g;
+            }
+            Opened::Refused(_) => {
+                return Pen { at: p, fresh: f };
+            }
+        }
+        at += 1;
+    }
+    Pen { at: p, fresh: f }
+}
+
+// The state in which a walk's nodes are open, and then one more, if last is not 0. w has the walk with the last step.
+pub fn opened(
+    types: &[u32],
+    offs: &[u32],
+    s: State,
+    w: Walk,
+    ops: &[u32],
+    args: &[u32],
+    last: u32,
+    last_arg: u32,
+) -> State
+    requires { ⌜ Ready (now types) (now offs) ⌝ }
+    requires { ⌜ Opens (now types) (now ops) (now args) s w last «last_arg» ⌝ }
+    ensures { λ r. ⌜ Carried (now (types .entry)) (now (ops .entry)) (now (args .entry)) s w last «last_arg» r ⌝ }
+{
+    let i = w.node;
+    let f = w.fresh;
+    let r = replaced(s, i, i + 1, 1 + f.added);
+    let mut forms = r.forms;
+    let mut whats = r.whats;
+    let p = write_path(
+        types,
+        offs,
+        ops,
+        args,
+        w.passed,
+        w.walked,
+        i,
+        w.typ,
+        &mut forms,
+        &mut whats,
+    );
+    if last != 0 {
+        let at = p.at;
+        let fresh = p.fresh;
+        write_open(types, fresh, last, last_arg, at, &mut forms, &mut whats);
+    }
+    State {
+        forms,
+        whats,
+        nodes: r.nodes,
+    }
+}
+
+// The node at i, of type t, folded.
+pub fn fold_at(types: &[u32], offs: &[u32], s: State, i: usize, t: usize) -> State
+    requires { ⌜ Ready (now types) (now offs) ⌝ }
+    requires { ⌜ t < ntypes (now types) ⌝ }
+    requires { ⌜ Here (now types) (s .forms) (s .whats) i t ⌝ }
+    requires { ⌜ s .nodes ≤ 512 ⌝ }
+    requires { ⌜ ((x : Tree) → Coded (now types) (s .forms) (s .whats) i t x → i + size x ≤ s .nodes) ⌝ }
+    ensures { λ r. ⌜ ((b e : List Code) (x : Tree) → Coded (now (types .entry)) (s .forms) (s .whats) i t x → Encoded s (b ++ (codes (now (types .entry)) x ++ e)) → length b ≡ i → Encoded r (b ++ ((0, 0) ∷ e))) ⌝ }
+{
+    let e = node_end(types, offs, &s.forms, &s.whats, i, t);
+    replaced(s, i, e, 1)
+}
