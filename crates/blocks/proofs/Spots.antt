@@ -29,14 +29,14 @@ unfolding function-sizes
 formed-accepted {fn} F =
     let L = F .laid in
     facts-of fn (cc (
-    le-leb 1 (nlocals fn) (L .some-locals),
-    le-leb (nlocals fn) 256 (L .most-locals),
-    lt-ltb (nargs fn) (nlocals fn) (L .few-args),
-    le-leb 1 (nblocks fn) (L .some-blocks),
-    le-leb (nblocks fn) 256 (L .most-blocks),
-    le-leb (nitems fn) 16384 (L .most-items),
-    eq-eqb (length fn) (4 + nlocals fn + nblocks fn + nblocks fn + nitems fn + nitems fn) (L .whole),
-  )) (F .starts) (F .ranks) (F .items)
+      le-leb 1 (nlocals fn) (L .some-locals),
+      le-leb (nlocals fn) 256 (L .most-locals),
+      lt-ltb (nargs fn) (nlocals fn) (L .few-args),
+      le-leb 1 (nblocks fn) (L .some-blocks),
+      le-leb (nblocks fn) 256 (L .most-blocks),
+      le-leb (nitems fn) 16384 (L .most-items),
+      eq-eqb (length fn) (4 + nlocals fn + nblocks fn + nblocks fn + nitems fn + nitems fn) (L .whole),
+    )) (F .starts) (F .ranks) (F .items)
 
 -- no block ends past the items
 pub block-stop : {fn : List ℕ} → Formed fn → {b : ℕ} → b < nblocks fn → stop fn b ≤ nitems fn

@@ -8,9 +8,9 @@ ghost use Rattle.mir.specs.Parts.{is-some};
 ghost use Rattle.type_record.specs.Sizes.{Ready};
 ghost use Rattle.state.specs.Value.{value};
 ghost use Rattle.input.specs.Input.{Checked};
+use mir::check_function::locals_ok;
 use state::check_state::check_state;
 use state::nodes::State;
-use mir::check_function::locals_ok;
 use type_record::check_types::check_types;
 
 // The type record and the local types: 0, or refusal 1 or 3. offs then has the offsets of the parts.
