@@ -1,0 +1,176 @@
+-- The calls for users: their answers, by what the tests and the calls within a run find.
+use mathlib.Core.Path.{_≡_, refl, sym, _∙_, ap}
+use mathlib.Core.Logic.{_≢_}
+use mathlib.Core.Bool.{Bool, true, false}
+use mathlib.Core.List.{List}
+use mathlib.Core.Option.{some}
+use Prim.Native.Nat.{ℕ}
+use native.Mathlib.Omega.{arith}
+use lib.ListN.{length}
+use Rattle.model.specs.Answer.{Answer, refused, done, _>>=_, require}
+use Rattle.model.specs.Types.{types-ok}
+use Rattle.model.specs.Tree.{Forest}
+use Rattle.model.specs.State as Model
+use Rattle.model.specs.State.{decode, locals-ok, encode}
+use Rattle.model.specs.Place.{Spot, At, used-ok}
+use Rattle.model.specs.Walk.{projection}
+use Rattle.model.specs.Calls.{typed, taken, placed, spot-of, Recorded, recorded-as, call-projection}
+use Rattle.base.specs.Tests.{split, split-option, clash}
+use Rattle.base.specs.Answer.{split-answer}
+use Rattle.mir.specs.Parts.{Spotted}
+use Rattle.records.specs.Here.{Holds}
+use Rattle.records.specs.Encode.{decode-holds}
+use Rattle.records.specs.Holds.{holds-encode}
+use Rattle.state.specs.Value.{value}
+use Rattle.state.specs.declared.nodes.State.{State}
+use Rattle.env.specs.declared.project.Projected.the-variants.{Refused}
+use Rattle.env.specs.declared.project.Usage.{Usage}
+use Rattle.env.specs.declared.project.Outcome.the-variants.{Refused as Denied}
+use Rattle.env.specs.declared.project.Moved.{Moved}
+use Rattle.env.specs.Answers.{Projects, Moves, call-recorded, Records, call-outcome, Gives}
+use Rattle.env.specs.Given.{Given}
+use Rattle.env.specs.Tested.{Tested}
+
+module _ {Γ locals os : List ℕ} {s : Model.State} {ops args : List ℕ} {r : ℕ} (t : Tested Γ locals os s ops args r) where
+  -- the types and the local types pass
+  tested-types : r ≡ 0 → (types-ok Γ ≡ true) × (locals-ok Γ locals ≡ true)
+  tested-types z =
+      split (types-ok Γ)
+      (λ a. split (locals-ok Γ locals) (λ b. (a, b)) (λ b. let no : _≡_ {A = ℕ} 0 3 = cc (t .answer) in absurd (omega arith)))
+      (λ a. let no : _≡_ {A = ℕ} 0 1 = cc (t .answer) in absurd (omega arith))
+
+  -- the local types pass
+  pub tested-locals : r ≡ 0 → locals-ok Γ locals ≡ true
+  tested-locals z = tested-types z .1
+
+  -- the state is read, and the items are a place
+  tested-both : r ≡ 0 → (E : Forest) × (q : Spot) × (decode Γ locals s ≡ some E) × (spot-of ops args ≡ some q)
+  tested-both z =
+      let (a, b) = tested-types z in
+      split-option (decode Γ locals s)
+      (λ d. let no : _≡_ {A = ℕ} 0 3 = cc (t .answer) in absurd (omega arith))
+      (λ E d. split-option (spot-of ops args) (λ p. let no : _≡_ {A = ℕ} 0 4 = cc (t .answer) in absurd (omega arith)) (λ q p. (E, q, d, p)))
+
+  module _ {A : Type 0} (ok : Spot → Bool) (f : Forest → Spot → Answer A) where
+    -- a test stops the call
+    call-stops : r ≢ 0 → typed Γ locals (λ _. taken Γ locals s (λ E. placed ok ops args (f E))) ≡ refused r
+    unfolding typed taken placed
+    call-stops n =
+        split (types-ok Γ)
+        (λ a. split (locals-ok Γ locals)
+        (λ b. split-option (decode Γ locals s)
+        (λ d. rw (a, b, d, taken) (ap refused (sym (cc (t .answer)))))
+        (λ E d. split-option (spot-of ops args)
+        (λ p. rw (a, b, d, taken, p, placed) (ap refused (sym (cc (t .answer)))))
+        (λ q p. absurd (n (cc (t .answer))))))
+        (λ b. rw (a, b) (ap refused (sym (cc (t .answer))))))
+        (λ a. rw a (ap refused (sym (cc (t .answer)))))
+
+    -- it goes on to the limits of the place
+    call-goes : r ≡ 0 → {E : Forest} {q : Spot} → decode Γ locals s ≡ some E → spot-of ops args ≡ some q
+        → typed Γ locals (λ _. taken Γ locals s (λ E. placed ok ops args (f E))) ≡ require (ok q) 4 (λ _. f E q)
+    unfolding typed taken placed
+    call-goes z d p = let (a, b) = tested-types z in rw (a, b, d, taken, p, placed)
+
+-- THE ANSWERS
+
+-- what a projection gives, as the call does
+abbrev shown : List ℕ → Forest × List At → Answer (Recorded × Model.State)
+shown Γ r = done (recorded-as (r .1), encode Γ (r .0))
+
+-- a state, as the call gives it
+abbrev given-back : List ℕ → Forest → Answer Model.State
+given-back Γ D = done (encode Γ D)
+
+-- a refusal gives the state back
+records-refused : {s : State} {a : Answer (Recorded × Model.State)} {n : ℕ} → a ≡ refused n → Records s a (record { answer = Refused n; state = s })
+records-refused e = record { answer = ap call-recorded (sym e); moved = λ w d. clash (cc); kept = λ n d. refl }
+
+-- of the other calls too
+gives-refused : {s : State} {a : Answer Model.State} {n : ℕ} → a ≡ refused n → Gives s a (record { answer = Denied n; state = s })
+gives-refused e = record { answer = ap call-outcome (sym e); moved = λ m d. clash (cc); kept = λ n d. refl }
+
+module _ {Γ locals : List ℕ} {s : State} where
+  -- a projection of a state that is held is the call's
+  records-of : {a : Answer (Forest × List At)} {b : Answer (Recorded × Model.State)} {u : Usage} → b ≡ a >>= shown Γ → Projects Γ locals s a u → Records s b u
+  records-of {a} {b} {u} e P =
+      split-answer a
+      (λ n d. let k : b ≡ refused n = e ∙ rw d in record {
+        answer = P .answer ∙ rw (d, k);
+        moved = λ w c. clash (cc);
+        kept = λ m c. P .kept n d;
+      })
+      (λ w d. let k : b ≡ shown Γ w = e ∙ rw d in record {
+        answer = P .answer ∙ rw (d, k);
+        moved = λ v c. let same : (recorded-as (w .1), encode Γ (w .0)) ≡ v = cc in sym (holds-encode (P .moved w d)) ∙ ap (λ (x : Recorded × Model.State). x .1) same;
+        kept = λ m c. clash (cc);
+      })
+
+  -- and so of the other calls
+  gives-of : {a : Answer Forest} {b : Answer Model.State} {m : Moved} → b ≡ a >>= given-back Γ → Moves Γ locals s a m → Gives s b m
+  gives-of {a} {b} {m} e P =
+      split-answer a
+      (λ n d. let k : b ≡ refused n = e ∙ rw d in record {
+        answer = P .answer ∙ rw (d, k);
+        moved = λ w c. clash (cc);
+        kept = λ j c. P .kept n d;
+      })
+      (λ D d. let k : b ≡ given-back Γ D = e ∙ rw d in record {
+        answer = P .answer ∙ rw (d, k);
+        moved = λ v c. let same : encode Γ D ≡ v = cc in sym (holds-encode (P .moved D d)) ∙ same;
+        kept = λ j c. clash (cc);
+      })
+
+module _ {Γ locals os : List ℕ} {s : State} {ops args : List ℕ} {r : ℕ} (t : Tested Γ locals os (value s) ops args r) where
+  -- the items are a place
+  pub tested-spotted : r ≡ 0 → Spotted ops args
+  tested-spotted z = let (E, q, d, p) = tested-both t z in record { spot = q; is = p }
+
+  -- the state and the place are given
+  pub tested-given : r ≡ 0 → (ok : Spot → Bool) → ((q : Spot) → spot-of ops args ≡ some q → ok q ≡ true) → Given Γ locals s ops args ok
+  tested-given z ok k = let (E, q, d, p) = tested-both t z in record { state = E; holds = decode-holds Γ locals (value s) E d; spot = q; is = p; passes = k q p }
+
+  -- a test stops the projection
+  pub projection-stops : r ≢ 0 → Records s (call-projection Γ locals (value s) ops args) (record { answer = Refused r; state = s })
+  unfolding call-projection
+  projection-stops n = records-refused (call-stops t (used-ok (length locals)) (λ E q. projection Γ q E >>= shown Γ) n)
+
+  -- its place is beyond its limits
+  pub projection-barred : r ≡ 0 → ((q : Spot) → spot-of ops args ≡ some q → used-ok (length locals) q ≡ false)
+      → Records s (call-projection Γ locals (value s) ops args) (record { answer = Refused 4; state = s })
+  unfolding call-projection
+  projection-barred z k =
+      let (E, q, d, p) = tested-both t z in
+      records-refused (call-goes t (used-ok (length locals)) (λ E q. projection Γ q E >>= shown Γ) z d p ∙ rw (k q p))
+
+  -- it is within them, and the projection is done
+  pub projection-goes : r ≡ 0 → ((q : Spot) → spot-of ops args ≡ some q → used-ok (length locals) q ≡ true) → {u : Usage}
+      → ((E : Forest) (q : Spot) → Holds Γ locals (value s) E → spot-of ops args ≡ some q → Projects Γ locals s (projection Γ q E) u)
+      → Records s (call-projection Γ locals (value s) ops args) u
+  unfolding call-projection
+  projection-goes z k P =
+      let (E, q, d, p) = tested-both t z in
+      records-of (call-goes t (used-ok (length locals)) (λ E q. projection Γ q E >>= shown Γ) z d p ∙ rw (k q p)) (P E q (decode-holds Γ locals (value s) E d) p)
+
+  -- the other calls
+  module _ (ok : Spot → Bool) (a : Forest → Spot → Answer Forest) where
+    -- the call, by its test of the place and by what it does with a state
+    abbrev pub call : Answer Model.State
+    call = typed Γ locals (λ _. taken Γ locals (value s) (λ E. placed ok ops args (λ q. a E q >>= given-back Γ)))
+
+    -- a test stops it
+    pub gives-stops : r ≢ 0 → Gives s call (record { answer = Denied r; state = s })
+    gives-stops n = gives-refused (call-stops t ok (λ E q. a E q >>= given-back Γ) n)
+
+    -- the place is beyond its limits
+    pub gives-barred : r ≡ 0 → ((q : Spot) → spot-of ops args ≡ some q → ok q ≡ false) → Gives s call (record { answer = Denied 4; state = s })
+    gives-barred z k =
+        let (E, q, d, p) = tested-both t z in
+        gives-refused (call-goes t ok (λ E q. a E q >>= given-back Γ) z d p ∙ rw (k q p))
+
+    -- it is done
+    pub gives-goes : r ≡ 0 → ((q : Spot) → spot-of ops args ≡ some q → ok q ≡ true) → {m : Moved}
+        → ((E : Forest) (q : Spot) → Holds Γ locals (value s) E → spot-of ops args ≡ some q → Moves Γ locals s (a E q) m) → Gives s call m
+    gives-goes z k P =
+        let (E, q, d, p) = tested-both t z in
+        gives-of (call-goes t ok (λ E q. a E q >>= given-back Γ) z d p ∙ rw (k q p)) (P E q (decode-holds Γ locals (value s) E d) p)

@@ -1,0 +1,18 @@
+-- `env::project::projection` meets its contract: a used place may be folded. Assumes nothing.
+use lib.ListN.{length}
+use Rattle.model.specs.Place.{fold-ok}
+use Rattle.env.proofs.Limits.{used-folds, given-also}
+use Rattle.env.proofs.project.projection.Statement.{statement}
+use Rattle.env.proofs.project.projection.Tie as tie
+
+used-requires : tie.Need-used-requires
+used-requires c κs =
+    let s = c .before .before .before .before .before in
+    let n = length (s .args .locals .now) in
+    (s .pre .0, (s .pre .1 .0, given-also (s .pre .1 .1) (fold-ok n) (used-folds n)))
+
+returns : tie.Need-returns
+returns c = c .used .ensures
+
+pub projection-spec : {M : Type 1} → statement M
+projection-spec = tie.close (tie.spec used-requires returns)

@@ -1,0 +1,86 @@
+-- The code's answers as model's: each case of an enum by document 01's number and values.
+use mathlib.Core.Path.{_≡_}
+use mathlib.Core.List.{List}
+use Prim.Native.Nat.{ℕ}
+use Rattle.model.specs.Answer.{Answer, refused, done, _>>=_}
+use Rattle.model.specs.Tree.{Tree, Forest}
+use Rattle.model.specs.State as Model
+use Rattle.model.specs.Place.{Elem, Verb, Spot, At}
+use Rattle.model.specs.Walk.{nth, walk, carry-at, fitting}
+use Rattle.model.specs.Calls.{Recorded, nothing, fold, unfold-at, recorded-as, statement-at}
+use Rattle.records.specs.Here.{Holds}
+use Rattle.walk.specs.Way.{acts}
+use Rattle.state.specs.Value.{value}
+use Rattle.state.specs.declared.nodes.State.{State}
+use Rattle.env.specs.declared.project.Projected.{Projected}
+use Rattle.env.specs.declared.project.Projected.the-variants.{Nothing, Fold, Unfold, Refused}
+use Rattle.env.specs.declared.project.Usage.{Usage}
+use Rattle.env.specs.declared.project.Outcome.{Outcome}
+use Rattle.env.specs.declared.project.Outcome.the-variants.{Fine, Refused as Denied}
+use Rattle.env.specs.declared.project.Moved.{Moved}
+use Rattle.env.specs.declared.project.Enum.{Enum}
+use Rattle.env.specs.declared.project.Enum.the-variants.{Of, Refused as Other}
+
+abbrev pub recorded : Recorded → Projected
+recorded nothing = Nothing
+recorded fold = Fold
+recorded (unfold-at n) = Unfold n
+
+abbrev pub projected : Answer (Forest × List At) → Projected
+projected (refused n) = Refused n
+projected (done r) = recorded (recorded-as (r .1))
+
+-- the code's projection r from the state s is model's a: its answer, and its state, which a refusal gives back as it came
+pub record Projects (Γ locals : List ℕ) (s : State) (a : Answer (Forest × List At)) (r : Usage) : Type 0 where
+  pub answer : r .answer ≡ projected a
+  pub moved : (w : Forest × List At) → a ≡ done w → Holds Γ locals (value (r .state)) (w .0)
+  pub kept : (n : ℕ) → a ≡ refused n → r .state ≡ s
+
+-- a walk with one step more at the node reached, and the test of its result
+unfoldable pub last-step : List ℕ → Elem → Spot → Forest → Answer Forest
+last-step Γ e q E = nth (q .local) (walk Γ (acts Γ e) (q .place)) E >>= fitting Γ
+
+-- a statement carried out, and the test of its result
+unfoldable pub carrying : List ℕ → List ℕ → Verb → Spot → Forest → Answer Forest
+carrying Γ locals v q E = carry-at Γ (statement-at Γ locals v q) E >>= fitting Γ
+
+abbrev pub outcome : Answer Forest → Outcome
+outcome (refused n) = Denied n
+outcome (done D) = Fine
+
+-- the same of a call that gives a state alone
+pub record Moves (Γ locals : List ℕ) (s : State) (a : Answer Forest) (r : Moved) : Type 0 where
+  pub answer : r .answer ≡ outcome a
+  pub moved : (D : Forest) → a ≡ done D → Holds Γ locals (value (r .state)) D
+  pub kept : (n : ℕ) → a ≡ refused n → r .state ≡ s
+
+-- what a step leaves of the open tree y
+abbrev pub left : Tree → Outcome → Answer Tree
+left y Fine = done y
+left y (Denied n) = refused n
+
+abbrev pub enum-of : Answer ℕ → Enum
+enum-of (refused n) = Other n
+enum-of (done t) = Of t
+
+-- THE CALLS FOR USERS
+
+abbrev pub call-recorded : Answer (Recorded × Model.State) → Projected
+call-recorded (refused n) = Refused n
+call-recorded (done r) = recorded (r .0)
+
+-- the answer of a projection is model's a: what is recorded, and the state, which a refusal gives back as it came
+pub record Records (s : State) (a : Answer (Recorded × Model.State)) (r : Usage) : Type 0 where
+  pub answer : r .answer ≡ call-recorded a
+  pub moved : (w : Recorded × Model.State) → a ≡ done w → value (r .state) ≡ w .1
+  pub kept : (n : ℕ) → a ≡ refused n → r .state ≡ s
+
+abbrev pub call-outcome : Answer Model.State → Outcome
+call-outcome (refused n) = Denied n
+call-outcome (done m) = Fine
+
+-- the same of a call that gives a state alone
+pub record Gives (s : State) (a : Answer Model.State) (r : Moved) : Type 0 where
+  pub answer : r .answer ≡ call-outcome a
+  pub moved : (m : Model.State) → a ≡ done m → value (r .state) ≡ m
+  pub kept : (n : ℕ) → a ≡ refused n → r .state ≡ s

@@ -1,0 +1,4 @@
+-- What the contracts of env cite beside the definitions of model.
+pub mod Given
+pub mod Tested
+pub mod Answers
