@@ -1,0 +1,108 @@
+-- The block of a match: the read and the enum that it is of, and where its targets stand.
+use mathlib.Core.Path.{_≡_, refl}
+use mathlib.Core.Logic.{_≢_}
+use mathlib.Core.List.{List}
+use mathlib.Core.Option.{Option, none, some}
+use Prim.Native.Nat.{ℕ, suc, _-_, _≤_, _<_}
+use native.Mathlib.Decide.{decLt}
+use native.Mathlib.Omega.{arith}
+use borrow.Author.Tests.{eqb-true, ne-eqb}
+use lib.Dec.{eqb}
+use Rattle.model.specs.Answer.{Answer, refused, done}
+use Rattle.model.specs.Types.{kind}
+use Rattle.model.specs.Tree.{Forest, type}
+use Rattle.model.specs.Place.{Spot}
+use Rattle.model.specs.Walk.{nth, walk, pick, reached, enum-at}
+use Rattle.model.specs.Function.{nblocks, nitems, start, stop, op, local-types}
+use Rattle.model.specs.Block.{is-arm, matched, targets}
+use Rattle.model.specs.Body.{exits-of}
+use Rattle.base.specs.Tests.{split, clash}
+use Rattle.base.specs.Answer.{then-done}
+use Rattle.base.specs.Kinds.{kind-known}
+use Rattle.records.specs.Here.{Holds}
+use Rattle.graph.specs.Enders.{target-last}
+use Rattle.state.specs.Value.{value}
+use Rattle.state.specs.declared.nodes.State.{State}
+use Rattle.state.proofs.Fields.{ready-typed}
+use Rattle.blocks.specs.Points.{item-of}
+use Rattle.blocks.specs.declared.matching.Item.the-variants.{At, Nowhere}
+use Rattle.env.specs.Answers.{enum-of}
+use Rattle.env.specs.declared.project.Enum.the-variants.{Of, Refused as Other}
+use Rattle.blocks.proofs.Spots.{formed-accepted, block-stop}
+use Rattle.blocks.proofs.Points.{Matched, matched-holds}
+use Rattle.body.specs.Given.{Accepted, Stated}
+use Rattle.body.specs.Arms.{Sought}
+use Rattle.body.specs.Tries.{Matching, Blank}
+use Rattle.body.proofs.Variants.{count-few}
+use Rattle.body.proofs.Plans.{Leads, leads-same, trying, trying-first}
+
+-- THE CODE'S ANSWERS
+
+-- a block without a match
+pub item-none : (o : Option ℕ) → item-of o ≡ Nowhere → o ≡ none
+item-none none e = refl
+item-none (some i) e = cc
+
+-- and with one
+pub item-some : (o : Option ℕ) {r : ℕ} → item-of o ≡ At r → o ≡ some r
+item-some none e = cc
+item-some (some i) e = cc
+
+-- a place of no enum
+pub enum-refused : (a : Answer ℕ) {n : ℕ} → enum-of a ≡ Other n → a ≡ refused n
+enum-refused (refused m) e = cc
+enum-refused (done t) e = cc
+
+-- and of one
+pub enum-done : (a : Answer ℕ) {t : ℕ} → enum-of a ≡ Of t → a ≡ done t
+enum-done (refused m) e = cc
+enum-done (done t) e = cc
+
+-- THE MATCH
+
+-- what is walked for its type is an enum
+enum-kind : (Γ : List ℕ) (q : Spot) (E : Forest) {t : ℕ} → enum-at Γ q E ≡ done t → kind Γ t ≡ 7
+unfolding enum-at
+enum-kind Γ q E {t} e =
+    let (D, _, d) = then-done (nth (q .local) (walk Γ done (q .place)) E) e in
+    let u = type (reached Γ (q .place) (pick (q .local) E)) in
+    split (eqb (kind Γ u) 7) (λ k. let z : u ≡ t = cc in rw z at (eqb-true (kind Γ u) 7 k)) (λ k. clash (cc))
+
+module _ {Γ os fn : List ℕ} (A : Accepted Γ os fn) {b read t : ℕ} {s : State} (l : b < nblocks fn) (M : Matching Γ fn b read t s) where
+  -- the read
+  read-in : Matched fn b read
+  read-in = matched-holds (A .formed) l (M .is)
+
+  -- and its enum
+  pub match-sought : Stated Γ (local-types fn) s → Sought Γ fn read t
+  match-sought S =
+      let k = enum-kind Γ _ (S .state) (M .enum (S .state) (S .holds)) in
+      record { item = omega (arith, read-in .high, block-stop (A .formed) l); used = read-in .uses; known = kind-known Γ t (λ z. omega arith); enum = k }
+
+  module _ {i : ℕ} (m : start fn b ≤ i) (n : i < stop fn b) where
+    -- an item of the block
+    pub match-item : i < nitems fn
+    match-item = omega (arith, block-stop (A .formed) l)
+
+    module _ (e : op fn i ≡ 10) where
+      -- a target that is no arm's is the last
+      pub match-last : op fn (i - 1) ≢ 9 → suc i ≡ stop fn b
+      unfolding is-arm
+      match-last a = target-last (formed-accepted (A .formed)) (record { block = l; low = m; high = n }) e (ne-eqb (op fn (i - 1)) 9 a)
+
+      -- something stands before a target
+      pub match-behind : 0 < i
+      match-behind = elim (decLt 0 i) [
+        | yes h ↦ h
+        | no h ↦
+            let z : i - 1 ≡ i = omega arith in
+            let w = match-last (rw (z, e) (λ d. omega arith)) in
+            let y : read ≡ i = omega (arith, read-in .high) in
+            absurd (omega (arith, rw y at (read-in .code)))
+      ]
+
+  -- the targets are left to try
+  pub match-first : {from e : ℕ} {taken : List ℕ} → from ≡ start fn b → e ≡ stop fn b → Stated Γ (local-types fn) s → Blank taken
+      → (E : Forest) → Holds Γ (local-types fn) (value s) E → Leads Γ fn read t E (exits-of Γ fn (matched fn b) (targets fn b) E) (trying Γ fn read t E e from taken)
+  match-first {taken} y z S B E h = rw (y, z) (leads-same (trying-first Γ fn read t E b taken l (M .is) (M .enum E h)
+      (λ v k. B .zero v (omega (arith, count-few (ready-typed (A .ready)) (match-sought S .known))))))

@@ -1,0 +1,136 @@
+-- What the functions answer that try an arm, or the otherwise target, or leave by one, from what their calls ensure.
+use mathlib.Core.Path.{_≡_, refl, sym, _∙_}
+use mathlib.Core.Logic.{_≢_}
+use mathlib.Core.List.{List}
+use mathlib.Core.Option.{Option, none, some}
+use Prim.Native.Nat.{ℕ, _-_, _<_}
+use borrow.Author.Tests.{eq-eqb, ne-eqb}
+use lib.ListN.{length, set}
+use Rattle.model.specs.Words.{word}
+use Rattle.model.specs.Answer.{Answer, refused, done}
+use Rattle.model.specs.Tree.{Forest}
+use Rattle.model.specs.Walk.{downcasting}
+use Rattle.model.specs.Function.{op, arg}
+use Rattle.model.specs.Block.{spot-before, is-arm, arm-value}
+use Rattle.model.specs.Body.{variants, variant-of, only, open-variant}
+use Rattle.base.specs.Tests.{clash}
+use Rattle.env.specs.Answers.{outcome}
+use Rattle.env.specs.declared.project.Outcome.{Outcome}
+use Rattle.env.specs.declared.project.Outcome.the-variants.{Fine, Refused as Denied}
+use Rattle.body.specs.declared.arms.Plan.the-variants.{Match, Refused}
+use Rattle.body.specs.Arms.{rest, opens, leaves-by}
+use Rattle.body.specs.declared.arms.Variant.{Variant}
+use Rattle.body.specs.declared.arms.Variant.the-variants.{Of, Unknown}
+use Rattle.body.specs.Tries.{variant-as, free, arm, Tried, Ended}
+use Rattle.body.proofs.Variants.{free-kept, free-without}
+
+-- an answer that is fine
+pub outcome-fine : (a : Answer Forest) → outcome a ≡ Fine → (D : Forest) × (a ≡ done D)
+outcome-fine (refused n) e = clash (cc)
+outcome-fine (done D) e = (D, refl)
+
+-- and one that is not
+pub outcome-denied : (a : Answer Forest) (n : ℕ) → outcome a ≡ Denied n → a ≡ refused n
+outcome-denied (refused m) n e = cc
+outcome-denied (done D) n e = cc
+
+-- AN ARM
+
+-- no variant, as the code has it
+as-none : (o : Option ℕ) → variant-as o ≡ Unknown → o ≡ none
+as-none none e = refl
+as-none (some v) e = cc
+
+-- and the variant v
+as-some : (o : Option ℕ) (v : ℕ) → variant-as o ≡ Of v → o ≡ some v
+as-some none v e = cc
+as-some (some w) v e = cc
+
+module _ (Γ fn : List ℕ) (t i : ℕ) {x : ℕ} {r : Variant} (z : x ≡ arg fn (i - 1)) (e : r ≡ variant-as (variant-of x (variants Γ t))) where
+  -- the value of the target's arm has no variant
+  pub value-unknown : r ≡ Unknown → variant-of (arm-value fn i) (variants Γ t) ≡ none
+  unfolding arm-value
+  value-unknown d = rw z at (as-none (variant-of x (variants Γ t)) (sym e ∙ d))
+
+  -- or the variant v
+  pub value-known : {v : ℕ} → r ≡ Of v → variant-of (arm-value fn i) (variants Γ t) ≡ some v
+  unfolding arm-value
+  value-known {v} d = rw z at (as-some (variant-of x (variants Γ t)) v (sym e ∙ d))
+
+module _ {Γ fn : List ℕ} {read t i : ℕ} {E : Forest} {taken : List ℕ} where
+  -- its variant is not left
+  pub tried-lost : (taken′ : List ℕ) → variant-of (arm-value fn i) (free Γ t taken) ≡ none → Tried Γ fn read t i E taken taken′ (Denied 8)
+  unfolding arm
+  tried-lost taken′ e = record { denied = λ n d. cc; fine = λ d. clash (cc) }
+
+  -- its variant is left, and tried
+  pub tried-left : {v : ℕ} → v < length taken → variant-of (arm-value fn i) (variants Γ t) ≡ some v → word taken v ≡ 0
+      → (r : Outcome) → r ≡ outcome (downcasting Γ (spot-before fn read) v E) → Tried Γ fn read t i E taken (set taken v 1) r
+  unfolding arm
+  tried-left {v} l k z r e =
+      let f = free-kept Γ t taken (arm-value fn i) k z in
+      record {
+        denied = λ n d. let y = outcome-denied (downcasting Γ (spot-before fn read) v E) n (sym e ∙ d) in cc;
+        fine = λ d.
+            let (D, y) = outcome-fine (downcasting Γ (spot-before fn read) v E) (sym e ∙ d) in
+            record { variant = v; known = k; left = f; state = D; opens = y; remain = free-without Γ t taken (arm-value fn i) k l z };
+      }
+
+-- THE OTHERWISE TARGET
+
+-- one variant is left
+rest-one : {l o : ℕ} → l ≡ 1 → rest l o ≡ some o
+unfolding rest
+rest-one e = cc
+
+-- none, or several
+rest-none : {l : ℕ} (o : ℕ) → l ≢ 1 → rest l o ≡ none
+unfolding rest
+rest-none {l} o d = cc (ne-eqb l 1 d)
+
+module _ {Γ fn : List ℕ} {read t : ℕ} (l o : ℕ) {E : Forest} {taken : List ℕ} (e : rest l o ≡ only (free Γ t taken)) where
+  -- it opens none
+  pub ended-none : l ≢ 1 → Ended Γ fn read t E taken (Match read t l o)
+  unfolding open-variant
+  ended-none d = let z = rest-none o d in record { denied = λ n f. clash (cc); fine = λ D f. (l, o, refl, e) }
+
+  module _ (z : l ≡ 1) where
+    -- it opens the one that is left
+    pub ended-fine : outcome (downcasting Γ (spot-before fn read) o E) ≡ Fine → Ended Γ fn read t E taken (Match read t l o)
+    unfolding open-variant
+    ended-fine d =
+        let y = rest-one {o = o} z in
+        let (D, w) = outcome-fine (downcasting Γ (spot-before fn read) o E) d in
+        record { denied = λ n f. clash (cc); fine = λ D f. (l, o, refl, e) }
+
+    -- which is refused
+    pub ended-denied : {n : ℕ} → outcome (downcasting Γ (spot-before fn read) o E) ≡ Denied n → Ended Γ fn read t E taken (Refused n)
+    unfolding open-variant
+    ended-denied {n} d =
+        let y = rest-one {o = o} z in
+        let w = outcome-denied (downcasting Γ (spot-before fn read) o E) n d in
+        record { denied = λ m f. cc; fine = λ D f. clash (cc) }
+
+-- LEAVING BY A TARGET
+
+module _ (Γ fn : List ℕ) (read t l o i : ℕ) (E D : Forest) (e : leaves-by Γ fn (Match read t l o) i E ≡ done D) where
+  -- the otherwise target, as it is
+  pub leaves-same : op fn (i - 1) ≢ 9 → l ≢ 1 → E ≡ D
+  unfolding opens is-arm open-variant
+  leaves-same a d = let z = rest-none o d in cc (ne-eqb (op fn (i - 1)) 9 a)
+
+  -- by the one variant that is left
+  pub leaves-other : op fn (i - 1) ≢ 9 → l ≡ 1 → downcasting Γ (spot-before fn read) o E ≡ done D
+  unfolding opens is-arm open-variant
+  leaves-other a d = let z = rest-one {o = o} d in cc (ne-eqb (op fn (i - 1)) 9 a)
+
+  module _ (a : op fn (i - 1) ≡ 9) where
+    -- an arm without a variant
+    pub leaves-unknown : variant-of (arm-value fn i) (variants Γ t) ≡ none → E ≡ D
+    unfolding opens is-arm open-variant
+    leaves-unknown k = cc (eq-eqb (op fn (i - 1)) 9 a)
+
+    -- an arm, by its variant
+    pub leaves-arm : {v : ℕ} → variant-of (arm-value fn i) (variants Γ t) ≡ some v → downcasting Γ (spot-before fn read) v E ≡ done D
+    unfolding opens is-arm open-variant
+    leaves-arm k = cc (eq-eqb (op fn (i - 1)) 9 a)

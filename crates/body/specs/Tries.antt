@@ -1,0 +1,75 @@
+-- What the functions ensure that try the arms of a match: the variants left, as an array marks the others; an arm; the otherwise
+-- target.
+use mathlib.Core.Path.{_≡_}
+use mathlib.Core.List.{List}
+use mathlib.Core.Option.{Option, none, some}
+use Prim.Native.Nat.{ℕ, _<_}
+use lib.ListN.{length}
+use lib.Dec.{eqb}
+use Rattle.model.specs.Words.{word, collect-from}
+use Rattle.model.specs.Answer.{Answer, refused, done}
+use Rattle.model.specs.Types.{count, discriminant}
+use Rattle.model.specs.Tree.{Forest}
+use Rattle.model.specs.Walk.{downcasting, enum-at}
+use Rattle.model.specs.Function.{local-types}
+use Rattle.model.specs.Block.{spot-before, arm-value}
+use Rattle.model.specs.Body.{Left, variants, variant-of, without, only, open-variant}
+use Rattle.records.specs.Here.{Holds}
+use Rattle.state.specs.Value.{value}
+use Rattle.state.specs.declared.nodes.State.{State}
+use Rattle.blocks.specs.Points.{matched-read}
+use Rattle.env.specs.declared.project.Outcome.{Outcome}
+use Rattle.env.specs.declared.project.Outcome.the-variants.{Fine, Refused as Denied}
+use Rattle.body.specs.declared.arms.Plan.{Plan}
+use Rattle.body.specs.declared.arms.Plan.the-variants.{Match, Refused}
+use Rattle.body.specs.declared.arms.Rest.{Rest}
+use Rattle.body.specs.declared.arms.Variant.{Variant}
+use Rattle.body.specs.declared.arms.Variant.the-variants.{Of, Unknown}
+use Rattle.body.specs.Arms.{rest}
+
+-- an option as the code has it
+abbrev pub variant-as : Option ℕ → Variant
+variant-as none = Unknown
+variant-as (some v) = Of v
+
+-- the variants of the enum t that are not taken
+unfoldable pub free : List ℕ → ℕ → List ℕ → Left
+free Γ t taken = collect-from (λ v. eqb (word taken v) 0) (λ v. (discriminant Γ t v, v)) (count Γ t) 0
+
+-- r says which variant is left, if it is one
+pub record Rested (Γ : List ℕ) (t : ℕ) (taken : List ℕ) (r : Rest) : Type 0 where
+  pub is : rest (r .left) (r .other) ≡ only (free Γ t taken)
+
+module _ (Γ fn : List ℕ) where
+  -- an arm of the value x, where ds are left: 8 if its variant is not
+  unfoldable pub arm : ℕ → ℕ → Left → Forest → Answer Forest
+  arm read x ds E = elim (variant-of x ds) [ none ↦ refused 8 | some v ↦ downcasting Γ (spot-before fn read) v E ]
+
+  -- the target item i has an arm that opens its variant of E, and takes it
+  pub record Taken (read t i : ℕ) (E : Forest) (taken taken′ : List ℕ) : Type 0 where
+    pub variant : ℕ
+    pub known : variant-of (arm-value fn i) (variants Γ t) ≡ some variant
+    pub left : variant-of (arm-value fn i) (free Γ t taken) ≡ some variant
+    pub state : Forest
+    pub opens : downcasting Γ (spot-before fn read) variant E ≡ done state
+    pub remain : free Γ t taken′ ≡ without (arm-value fn i) (free Γ t taken)
+
+  -- the arm of the target item i was tried
+  pub record Tried (read t i : ℕ) (E : Forest) (taken taken′ : List ℕ) (r : Outcome) : Type 0 where
+    pub denied : (n : ℕ) → r ≡ Denied n → arm read (arm-value fn i) (free Γ t taken) E ≡ refused n
+    pub fine : r ≡ Fine → Taken read t i E taken taken′
+
+  -- the otherwise target was tried
+  pub record Ended (read t : ℕ) (E : Forest) (taken : List ℕ) (p : Plan) : Type 0 where
+    pub denied : (n : ℕ) → open-variant Γ fn (spot-before fn read) (only (free Γ t taken)) E ≡ refused n → p ≡ Refused n
+    pub fine : (D : Forest) → open-variant Γ fn (spot-before fn read) (only (free Γ t taken)) E ≡ done D → (left : ℕ) × (other : ℕ) × (p ≡ Match read t left other) × (rest left other ≡ only (free Γ t taken))
+
+-- the block b matches on the place of the read, which is of the enum t in the state of s
+pub record Matching (Γ fn : List ℕ) (b read t : ℕ) (s : State) : Type 0 where
+  pub is : matched-read fn b ≡ some read
+  pub enum : (E : Forest) → Holds Γ (local-types fn) (value s) E → enum-at Γ (spot-before fn read) E ≡ done t
+
+-- no variant is taken yet
+pub record Blank (taken : List ℕ) : Type 0 where
+  pub long : length taken ≡ 16384
+  pub zero : (v : ℕ) → v < 16384 → word taken v ≡ 0

@@ -1,0 +1,3 @@
+// One block's own run: its items, and how its targets open the state.
+pub mod arms;
+pub mod items;
