@@ -1,0 +1,4 @@
+-- Laws that several proofs of collect cite.
+pub mod Passing
+pub mod Collected
+pub mod Called

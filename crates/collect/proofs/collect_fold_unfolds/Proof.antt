@@ -1,0 +1,129 @@
+-- `collect::collect_fold_unfolds` meets its contract: by what its tests, the collector and `ended` ensure. Assumes nothing.
+use borrow.Author.Needs.{needs}
+use Rattle.model.specs.Tree.{Forest}
+use Rattle.model.specs.Collect.{collects}
+use Rattle.records.specs.Here.{Holds}
+use Rattle.state.specs.Value.{value}
+use Rattle.statements.proofs.Puts.{counted-start}
+use Rattle.input.proofs.Tested.{given-read}
+use Rattle.collect.proofs.Called.{writes-refused, writes-same, collect-untyped, collect-first, collect-second, collect-goes, collects-from, ended-ready}
+use Rattle.collect.proofs.collect_fold_unfolds.Statement.{statement}
+use Rattle.collect.proofs.collect_fold_unfolds.Tie as tie
+
+slice-aggregate-check-locals : tie.Need-slice-aggregate-check-locals
+slice-aggregate-check-locals c = search needs
+
+check-locals-requires : tie.Need-check-locals-requires
+check-locals-requires c κs = search needs
+
+refused-requires : tie.Need-refused-requires
+refused-requires c κs = search needs
+
+same-length : tie.Need-same-length
+same-length c = search needs
+
+returns : tie.Need-returns
+returns c = writes-refused (collect-untyped (c .before .before .before .before .before .before .check-locals .ensures) _ _ _ (c .before .before .before .before .if1 .taken)) (c .before .before .refused .ensures)
+
+slice-aggregate-check-given : tie.Need-slice-aggregate-check-given
+slice-aggregate-check-given c = search needs
+
+check-given-requires : tie.Need-check-given-requires
+check-given-requires c κs =
+    let K = c .before .before .before .check-locals .ensures in
+    (K .ready (c .before .if1 .left), K .typed (c .before .if1 .left))
+
+refused-requires-2 : tie.Need-refused-requires-2
+refused-requires-2 c κs = search needs
+
+same-length-2 : tie.Need-same-length-2
+same-length-2 c = search needs
+
+returns-2 : tie.Need-returns-2
+returns-2 c = writes-refused (collect-first (c .before .before .before .before .before .before .before .before .before .check-locals .ensures) _ (c .before .before .before .before .before .before .before .if1 .left) _ _ (c .before .before .before .before .before .check-given .ensures) (c .before .before .before .before .if2 .taken)) (c .before .before .refused2 .ensures)
+
+slice-aggregate-check-given-2 : tie.Need-slice-aggregate-check-given-2
+slice-aggregate-check-given-2 c = search needs
+
+check-given-requires-2 : tie.Need-check-given-requires-2
+check-given-requires-2 c κs =
+    let K = c .before .before .before .before .before .before .check-locals .ensures in
+    (K .ready (c .before .before .before .before .if1 .left), K .typed (c .before .before .before .before .if1 .left))
+
+refused-requires-3 : tie.Need-refused-requires-3
+refused-requires-3 c κs = search needs
+
+same-length-3 : tie.Need-same-length-3
+same-length-3 c = search needs
+
+returns-3 : tie.Need-returns-3
+returns-3 c =
+    let a = c .before .before .before .before .before .before .before .before .before .before .before .before .before .before .before .before .before .args in
+    let K = c .before .before .before .before .before .before .before .before .before .before .before .before .check-locals .ensures in
+    let S = given-read (a .types .now) (a .locals .now) (value (a .s)) (c .before .before .before .before .before .before .before .before .check-given .ensures) (c .before .before .before .before .before .before .before .if2 .left) in
+    writes-refused (collect-second K _ (c .before .before .before .before .before .before .before .before .before .before .if1 .left) _ (S .1) _ (c .before .before .before .before .before .check-given2 .ensures) (c .before .before .before .before .if3 .taken)) (c .before .before .refused3 .ensures)
+
+slice-aggregate-collect-fold-unfolds : tie.Need-slice-aggregate-collect-fold-unfolds
+slice-aggregate-collect-fold-unfolds c = search needs
+
+entry-requires : tie.Need-entry-requires
+entry-requires c κs = search needs
+
+nothing-requires : tie.Need-nothing-requires
+nothing-requires c κs = search needs
+
+collect-fold-unfolds-requires : tie.Need-collect-fold-unfolds-requires
+collect-fold-unfolds-requires c κs =
+    let a = c .before .before .before .before .before .before .before .before .before .before .before .before .before .before .before .before .before .args in
+    let K = c .before .before .before .before .before .before .before .before .before .before .before .before .check-locals .ensures in
+    let S = given-read (a .types .now) (a .locals .now) (value (a .s)) (c .before .before .before .before .before .before .before .before .check-given .ensures) (c .before .before .before .before .before .before .before .if2 .left) in
+    let E = given-read (a .types .now) (a .locals .now) (value (a .e)) (c .before .before .before .before .before .check-given2 .ensures) (c .before .before .before .before .if3 .left) in
+    let first : (D : Forest) × Holds (a .types .now) (a .locals .now) (value (a .s)) D = (S .0, S .2) in
+    let second : (D : Forest) × Holds (a .types .now) (a .locals .now) (value (a .e)) D = (E .0, E .2) in
+    (K .ready (c .before .before .before .before .before .before .before .before .before .before .if1 .left), (K .typed (c .before .before .before .before .before .before .before .before .before .before .if1 .left), (first, (second, rw (c .nothing .ensures) (counted-start _)))))
+
+ended-requires : tie.Need-ended-requires
+ended-requires c κs =
+    let a = c .before .before .before .before .before .before .before .before .before .before .before .before .before .before .before .before .before .before .before .before .before .args in
+    let K = c .before .before .before .before .before .before .before .before .before .before .before .before .before .before .before .before .check-locals .ensures in
+    let S = given-read (a .types .now) (a .locals .now) (value (a .s)) (c .before .before .before .before .before .before .before .before .before .before .before .before .check-given .ensures) (c .before .before .before .before .before .before .before .before .before .before .before .if2 .left) in
+    let E = given-read (a .types .now) (a .locals .now) (value (a .e)) (c .before .before .before .before .before .before .before .before .before .check-given2 .ensures) (c .before .before .before .before .before .before .before .before .if3 .left) in
+    ended-ready (collects-from (c .before .before .before .before .before .entry .ensures) (c .before .before .before .before .nothing .ensures) (c .before .before .before .collect-fold-unfolds .ensures (S .0) (E .0) (S .2) (E .2)))
+
+same-length-4 : tie.Need-same-length-4
+same-length-4 c = search needs
+
+returns-4 : tie.Need-returns-4
+returns-4 c =
+    let a = c .before .before .before .before .before .before .before .before .before .before .before .before .before .before .before .before .before .before .before .before .before .before .before .before .args in
+    let K = c .before .before .before .before .before .before .before .before .before .before .before .before .before .before .before .before .before .before .before .check-locals .ensures in
+    let S = given-read (a .types .now) (a .locals .now) (value (a .s)) (c .before .before .before .before .before .before .before .before .before .before .before .before .before .before .before .check-given .ensures) (c .before .before .before .before .before .before .before .before .before .before .before .before .before .before .if2 .left) in
+    let E = given-read (a .types .now) (a .locals .now) (value (a .e)) (c .before .before .before .before .before .before .before .before .before .before .before .before .check-given2 .ensures) (c .before .before .before .before .before .before .before .before .before .before .before .if3 .left) in
+    writes-same (collects (a .types .now) (S .0) (E .0)) (c .before .before .before .before .before .before .collect-fold-unfolds .kept .1 .1 .1 .1 .1 .0) (collect-goes K _ (c .before .before .before .before .before .before .before .before .before .before .before .before .before .before .before .before .before .if1 .left) _ (S .1) _ (E .1)) (c .before .before .ended .ensures _ _ (collects-from (c .before .before .before .before .before .before .before .before .entry .ensures) (c .before .before .before .before .before .before .before .nothing .ensures) (c .before .before .before .before .before .before .collect-fold-unfolds .ensures (S .0) (E .0) (S .2) (E .2))))
+
+pub collect-fold-unfolds-spec : {M : Type 1} → statement M
+collect-fold-unfolds-spec =
+    tie.close
+    (tie.spec
+    slice-aggregate-check-locals
+    check-locals-requires
+    refused-requires
+    same-length
+    returns
+    slice-aggregate-check-given
+    check-given-requires
+    refused-requires-2
+    same-length-2
+    returns-2
+    slice-aggregate-check-given-2
+    check-given-requires-2
+    refused-requires-3
+    same-length-3
+    returns-3
+    slice-aggregate-collect-fold-unfolds
+    entry-requires
+    nothing-requires
+    collect-fold-unfolds-requires
+    ended-requires
+    same-length-4
+    returns-4)

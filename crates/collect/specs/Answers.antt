@@ -1,0 +1,80 @@
+-- The code's answers as model's.
+use mathlib.Core.Path.{_≡_}
+use mathlib.Core.Bool.{cond}
+use mathlib.Core.List.{List, [], _∷_, _++_, map}
+use Prim.Native.Nat.{ℕ}
+use lib.Dec.{eqb}
+use lib.ListN.{length, replicate}
+use Rattle.model.specs.Words.{word}
+use Rattle.model.specs.Answer.{Answer, refused, done, _>>=_, require}
+use Rattle.model.specs.Tree.{Forest}
+use Rattle.model.specs.Place.{At}
+use Rattle.model.specs.Collect.{folds-at-ret}
+use Rattle.model.specs.Record.{Entry, writable, lent}
+use Rattle.model.specs.Calls.{written}
+use Rattle.records.specs.Here.{CodedAll}
+use Rattle.statements.specs.declared.Out.{Out}
+use Rattle.statements.specs.declared.Point.{Point}
+use Rattle.statements.specs.Kept.{Counted, Puts}
+use Rattle.collectors.specs.declared.trees.Got.{Got}
+use Rattle.collectors.specs.Trail.{lines-of, root}
+use Rattle.collect.specs.declared.states.Collected.{Collected}
+use Rattle.collect.specs.declared.states.Collected.the-variants.{Done, Refused}
+use Rattle.collect.specs.declared.Record.{Record}
+use Rattle.collect.specs.declared.Record.the-variants.{Done as Counts, Refused as Refusal}
+
+-- OF STATES
+
+abbrev pub outcome : Got → Collected
+outcome g = cond (eqb (g .refusal) 0) (Done (g .out)) (Refused (g .refusal))
+
+-- the statements a are recorded at the point p behind what was, or r is their refusal
+pub record Collects (p : Entry) (out : List ℕ) (o : Out) (out′ : List ℕ) (a : Answer (List At)) (r : Collected) : Type 0 where
+  pub recorded : (q : Out) → r ≡ Done q → (b : List At) × (a ≡ done b) × Puts (length b) out o out′ q (lines-of p (root 0) b)
+  pub stopped : (n : ℕ) → r ≡ Refused n → a ≡ refused n
+
+-- what a return owes of the locals 1 to a is recorded
+pub record Owed (Γ : List ℕ) (p : Entry) (out : List ℕ) (o : Out) (out′ : List ℕ) (r : Got) (a : ℕ) (fs ws locals : List ℕ) : Type 0 where
+  pub trees : (S : Forest) → CodedAll Γ fs ws 0 locals S
+      → Puts (length (folds-at-ret Γ a S)) out o out′ (r .out) (lines-of p (root 0) (folds-at-ret Γ a S))
+
+-- OF THE CALLS
+
+-- the entry's point
+abbrev pub begin : Point
+begin = record { op = 14; arg = 0 }
+
+-- nothing is recorded
+abbrev pub start : Out
+start = record { statements = 0; entries = 0 }
+
+-- what is recorded has counts in range
+abbrev pub Ready-to : List ℕ → Collected → Type 0
+Ready-to out c = (q : Out) → c ≡ Done q → Counted out q
+
+-- a refusal, where a record would be
+abbrev pub refuses : ℕ → Answer (List ℕ)
+refuses n = refused n
+
+-- the record of k statements, of these entries, if a buffer of n words has room
+unfoldable pub finishes : ℕ → ℕ → List Entry → Answer (List ℕ)
+finishes n k es = require (writable n es) 10 λ _. done (k ∷ length es ∷ (map (λ e. e .0) es ++ map (λ e. e .1) es))
+
+-- the record of a collector's answer
+abbrev pub writes : ℕ → Answer (List At) → Answer (List ℕ)
+writes n a = a >>= written [] [] n
+
+-- a record's counts
+abbrev pub counts : Answer (List ℕ) → Record
+counts (refused r) = Refusal r
+counts (done ws) = Counts (word ws 0) (word ws 1)
+
+-- a lent buffer of n words: the record and zeros behind it, or zeros
+abbrev pub buffer : ℕ → Answer (List ℕ) → List ℕ
+buffer n (refused r) = replicate n 0
+buffer n (done ws) = lent n ws
+
+-- the call's answer is model's a
+pub record Writes (n : ℕ) (a : Answer (List ℕ)) (r : Record) (out′ : List ℕ) : Type 0 where
+  pub answer : r ≡ counts a
+  pub left : out′ ≡ buffer n a

@@ -1,0 +1,2 @@
+-- What the contracts of collect cite beside the definitions of model.
+pub mod Answers

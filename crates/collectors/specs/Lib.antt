@@ -1,0 +1,3 @@
+-- What the contracts of collectors cite beside the definitions of model.
+pub mod Trail
+pub mod Gets
