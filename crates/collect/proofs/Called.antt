@@ -89,11 +89,13 @@ module _ {before out : List ℕ} {a : Answer (List At)} {c : Collected} (C : Col
   pub ended-ready : Ready-to out c
   ended-ready q e = C .recorded q e .2 .counted
 
--- a collecting call's point, and nothing before
+-- a collecting call's point is the entry, and nothing is recorded before
 module _ {p : Point} {o : Out} {out out′ : List ℕ} (e : p ≡ begin) (d : o ≡ start) where
+  -- a collector's answer
   pub collects-from : {a : Answer (List At)} {c : Collected} → Collects (p .op, p .arg) out o out′ a c → Collects (14, 0) out start out′ a c
   collects-from C = rw (e, d) at C
 
+  -- statements
   pub puts-from : {q : Out} (b : List At) → Puts (length b) out o out′ q (lines-of (p .op, p .arg) (root 0) b) → Puts (length b) out start out′ q (lines-of (14, 0) (root 0) b)
   puts-from b P = rw (e, d) at P
 

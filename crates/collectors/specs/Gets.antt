@@ -69,6 +69,7 @@ module _ (Γ : List ℕ) (p : Entry) (out : List ℕ) (o : Out) (out′ : List �
   pub record Opening (q : List Entry) (fs ws : List ℕ) (i t : ℕ) : Type 0 where
     pub tree : (x : Tree) → Coded Γ fs ws i t x → Tells out o out′ r (lines p q) 0 (i + size x) (unfolds Γ x)
 
+  -- what opens them
   pub record OpeningAll (q : ℕ → List Entry) (fs ws : List ℕ) (i : ℕ) (ts : List ℕ) : Type 0 where
     pub trees : (xs : Forest) → CodedAll Γ fs ws i ts xs → Tells out o out′ r (lines-of p q) 0 (i + sizes xs) (unfoldss Γ xs)
 
@@ -77,6 +78,7 @@ module _ (Γ : List ℕ) (p : Entry) (out : List ℕ) (o : Out) (out′ : List �
     pub tree : (x y : Tree) → Coded Γ fs ws i t x → Coded Γ gs vs j t y
         → Tells out o out′ r (lines p q) (i + size x) (j + size y) (collect Γ x y)
 
+  -- what leads from them to others
   pub record LeadingAll (q : ℕ → List Entry) (fs ws : List ℕ) (i : ℕ) (gs vs : List ℕ) (j : ℕ) (ts : List ℕ) : Type 0 where
     pub trees : (xs ys : Forest) → CodedAll Γ fs ws i ts xs → CodedAll Γ gs vs j ts ys
         → Tells out o out′ r (lines-of p q) (i + sizes xs) (j + sizes ys) (collects Γ xs ys)
@@ -85,5 +87,6 @@ module _ (Γ : List ℕ) (p : Entry) (out : List ℕ) (o : Out) (out′ : List �
   pub record Owing (q : List Entry) (fs ws : List ℕ) (i t : ℕ) : Type 0 where
     pub tree : (x : Tree) → Coded Γ fs ws i t x → Tells out o out′ r (lines p q) (i + size x) 0 (done (folds Γ x))
 
+  -- what a return owes of them
   pub record OwingAll (q : ℕ → List Entry) (fs ws : List ℕ) (i : ℕ) (ts : List ℕ) : Type 0 where
     pub trees : (xs : Forest) → CodedAll Γ fs ws i ts xs → Tells out o out′ r (lines-of p q) (i + sizes xs) 0 (done (foldss Γ xs))

@@ -1,0 +1,152 @@
+-- The whole-function call's answer and all that was lent, by what its parts leave: a refusal of the tests, of the passes or of the
+-- statement buffer, or a record.
+use mathlib.Core.Path.{_≡_, sym, ap, _∙_, subst}
+use mathlib.Core.Logic.{_≢_}
+use mathlib.Core.Bool.{Bool, true, false}
+use mathlib.Core.List.{List, [], _∷_}
+use Prim.Native.Nat.{ℕ, _+_, _*_, _^_, _≤_}
+use native.Mathlib.Omega.{arith}
+use lib.ListN.{length, replicate, length-append, length-replicate}
+use lib.Dec.{ltb}
+use borrow.Author.Tests.{leb-true}
+use Rattle.model.specs.Answer.{Answer, refused, done, _>>=_}
+use Rattle.model.specs.Tree.{Forest}
+use Rattle.model.specs.Place.{At}
+use Rattle.model.specs.Block.{entry-point}
+use Rattle.model.specs.Frame.{Line}
+use Rattle.model.specs.Passes.{Found}
+use Rattle.model.specs.Record.{line-entries, entries, statement-record, writable, lent}
+use Rattle.model.specs.Whole.{Result, passes, with-buffer, shares, accepted, denied, result, shorter, found, whole}
+use Rattle.model.specs.Replay.{Replayed}
+use Rattle.base.specs.Tests.{clash, and-left}
+use Rattle.base.specs.Answer.{split-answer}
+use Rattle.demand.specs.Demand.{demand-3}
+use Rattle.statements.specs.Kept.{room, Counted, Kept, Finished}
+use Rattle.statements.specs.declared.Out.{Out}
+use Rattle.visit.specs.declared.block.Visit.{Visit}
+use Rattle.visit.specs.declared.block.Visit.the-variants.{Over, Refused as Stopped}
+use Rattle.fold_unfold.specs.declared.Ghosts.{Ghosts}
+use Rattle.fold_unfold.specs.declared.Ghosts.the-variants.{Done, Refused}
+use Rattle.fold_unfold.specs.Answers.{answer-of, Whole, Checked, Analysed}
+
+-- no more statements than entries
+lines-few : (entry : ℕ) (ls : List (Line At)) → length ls ≤ length (entries entry ls)
+unfolding entries line-entries
+lines-few entry [] = omega arith
+lines-few entry (l ∷ ls) = rw length-append (omega (arith, lines-few entry ls))
+
+-- an array of zeros, by its own length
+pub own-zeros : {l : List ℕ} (m : List ℕ) → l ≡ replicate (length m) 0 → l ≡ replicate (length l) 0
+own-zeros m e = e ∙ ap (λ (k : ℕ). replicate k 0) (sym (ap length e ∙ length-replicate {A = ℕ} (length m) 0))
+
+module _ (Γ fn : List ℕ) (nforms nwhats nout : ℕ) where
+  -- the tests refuse
+  found-denied : {offs points : List ℕ} {r : ℕ} → Checked Γ fn nforms nwhats offs points r → r ≢ 0 → found Γ fn nforms nwhats nout ≡ refused r
+  unfolding found shorter
+  found-denied C n = ap (λ (a : Answer (Found Forest At)). a >>= with-buffer fn nout) (C .denied n)
+
+  -- they pass
+  found-passed : {offs points : List ℕ} {r : ℕ} → Checked Γ fn nforms nwhats offs points r → r ≡ 0 → found Γ fn nforms nwhats nout ≡ (passes Γ fn >>= with-buffer fn nout)
+  unfolding found shorter
+  found-passed C z = ap (λ (a : Answer (Found Forest At)). a >>= with-buffer fn nout) (C .passed z)
+
+module _ {Γ fn fs ws out fs′ ws′ out′ : List ℕ} where
+  -- by what model's call leaves
+  whole-found : (R : Result) → whole Γ fn (length fs) (length ws) (length out) ≡ R → fs′ ≡ R .forms → ws′ ≡ R .whats → out′ ≡ R .out
+      → Whole Γ fn fs ws out fs′ ws′ out′ (answer-of (R .answer))
+  whole-found R e zf zw zo = record { answer = rw e; forms = rw e zf; whats = rw e zw; record-is = rw e zo }
+
+  -- a refused call
+  whole-refused : {n : ℕ} → found Γ fn (length fs) (length ws) (length out) ≡ refused n
+      → fs′ ≡ replicate (length fs) 0 → ws′ ≡ replicate (length ws) 0 → out′ ≡ replicate (length out) 0 → Whole Γ fn fs ws out fs′ ws′ out′ (Refused n)
+  unfolding whole result denied
+  whole-refused {n} e zf zw zo =
+      whole-found (denied Γ fn (length fs) (length ws) (length out) n) (ap (result Γ fn (length fs) (length ws) (length out)) e) zf zw zo
+
+  -- an accepted call
+  whole-accepted : (f : Found Forest At) → found Γ fn (length fs) (length ws) (length out) ≡ done f
+      → fs′ ≡ lent (length fs) (shares Γ fn (λ s. s .forms) (f .kept)) → ws′ ≡ lent (length ws) (shares Γ fn (λ s. s .whats) (f .kept))
+      → out′ ≡ lent (length out) (statement-record (entry-point fn) (f .lines))
+      → Whole Γ fn fs ws out fs′ ws′ out′ (Done (length (f .lines)) (length (entries (entry-point fn) (f .lines))))
+  unfolding whole result accepted
+  whole-accepted f e zf zw zo =
+      whole-found (accepted Γ fn (length fs) (length ws) (length out) f) (ap (result Γ fn (length fs) (length ws) (length out)) e) zf zw zo
+
+-- only the lengths of what was lent count
+pub whole-same : {Γ fn fs ws out fs₀ ws₀ out₀ fs′ ws′ out′ : List ℕ} {r : Ghosts} → length fs ≡ length fs₀ → length ws ≡ length ws₀ → length out ≡ length out₀
+    → Whole Γ fn fs ws out fs′ ws′ out′ r → Whole Γ fn fs₀ ws₀ out₀ fs′ ws′ out′ r
+whole-same lf lw lo W = record {
+  answer = rw (lf, lw, lo) at (W .answer);
+  forms = rw (lf, lw, lo) at (W .forms);
+  whats = rw (lf, lw, lo) at (W .whats);
+  record-is = rw (lf, lw, lo) at (W .record-is);
+}
+
+module _ {Γ fn fs ws out offs points : List ℕ} {r : ℕ} (C : Checked Γ fn (length fs) (length ws) offs points r) where
+  -- the tests refuse
+  pub tests-refuse : {fs′ ws′ out′ : List ℕ} → r ≢ 0 → fs′ ≡ replicate (length fs) 0 → ws′ ≡ replicate (length ws) 0 → out′ ≡ replicate (length out) 0
+      → Whole Γ fn fs ws out fs′ ws′ out′ (Refused r)
+  tests-refuse n zf zw zo = whole-refused (found-denied Γ fn (length fs) (length ws) (length out) C n) zf zw zo
+
+  module _ (z : r ≡ 0) {fs₂ ws₂ out₂ : List ℕ} {v : Visit} (A : Analysed Γ fn fs ws out fs₂ ws₂ out₂ v) where
+    -- the passes refuse
+    pub passes-refuse : {n : ℕ} {fs′ ws′ out′ : List ℕ} → v ≡ Stopped n → fs′ ≡ replicate (length fs₂) 0 → ws′ ≡ replicate (length ws₂) 0
+        → out′ ≡ replicate (length out₂) 0 → Whole Γ fn fs ws out fs′ ws′ out′ (Refused n)
+    passes-refuse {n} e zf zw zo =
+        let p = found-passed Γ fn (length fs) (length ws) (length out) C z in
+        split-answer (passes Γ fn)
+        (λ k q. let d : Stopped k ≡ Stopped n = sym (A .denied k q) ∙ e in
+        let s : k ≡ n = cc in
+        whole-refused (cc) (zf ∙ rw (A .same-forms)) (zw ∙ rw (A .same-whats)) (zo ∙ rw (A .same-out)))
+        (λ f q. let o = A .over f q .1 in clash (cc))
+
+    module _ {o : Out} (e : v ≡ Over o) where
+      -- the passes are accepted
+      accepts : {P : Type 0} → ((f : Found Forest At) → passes Γ fn ≡ done f → Counted out₂ o
+          → Kept (length (f .lines)) (entries (entry-point fn) (f .lines)) out₂ o → P) → P
+      accepts g = split-answer (passes Γ fn)
+          (λ k q. let d = A .denied k q in clash (cc))
+          (λ f q. let O = A .over f q in let s : O .0 ≡ o = cc (O .1) in
+          g f q (subst (λ (x : Out). Counted out₂ x) s (O .2)) (subst (λ (x : Out). Kept (length (f .lines)) (entries (entry-point fn) (f .lines)) out₂ x) s (O .3)))
+
+      -- what is recorded is counted
+      pub accepts-counted : Counted out₂ o
+      accepts-counted = accepts (λ f q c k. c)
+
+      module _ {out′ : List ℕ} {b : Bool} (F : (k : ℕ) (es : List (ℕ × ℕ)) → Finished k es out₂ o out′ b) where
+        -- the buffer refuses
+        pub buffer-refuses : {fs′ ws′ : List ℕ} → b ≡ false → fs′ ≡ replicate (length fs₂) 0 → ws′ ≡ replicate (length ws₂) 0
+            → Whole Γ fn fs ws out fs′ ws′ out′ (Refused 10)
+        unfolding with-buffer
+        buffer-refuses d zf zw = accepts (λ f q c k.
+            let es = entries (entry-point fn) (f .lines) in
+            let w : b ≡ writable (length out₂) es = F (length (f .lines)) es .answer k (lines-few (entry-point fn) (f .lines)) in
+            let p = found-passed Γ fn (length fs) (length ws) (length out) C z in
+            let u : writable (length out) es ≡ false = ap (λ (n : ℕ). writable n es) (sym (A .same-out)) ∙ sym w ∙ d in
+            whole-refused (cc) (zf ∙ rw (A .same-forms)) (zw ∙ rw (A .same-whats)) (F 0 [] .zeroed d ∙ rw (A .same-out)))
+
+        -- the record is written
+        pub record-written : b ≡ true → Whole Γ fn fs ws out fs₂ ws₂ out′ (Done (o .statements) (o .entries))
+        unfolding with-buffer statement-record writable room
+        record-written d = accepts (λ f q c k.
+            let es = entries (entry-point fn) (f .lines) in
+            let few = lines-few (entry-point fn) (f .lines) in
+            let w : writable (length out₂) es ≡ true = sym (F (length (f .lines)) es .answer k few) ∙ d in
+            let p = found-passed Γ fn (length fs) (length ws) (length out) C z in
+            let u : writable (length out) es ≡ true = ap (λ (n : ℕ). writable n es) (sym (A .same-out)) ∙ w in
+            let h : 2 + 2 * length es ≤ length out₂ = leb-true (2 + 2 * length es) (length out₂) (and-left _ (ltb (length es) (2 ^ 32)) w) in
+            let K = k .fits (omega arith) in
+            rw (K .statements, K .entries)
+            (whole-accepted f (cc) (A .forms f q) (A .whats f q) (F (length (f .lines)) es .written k few d ∙ rw (A .same-out))))
+
+-- DEMAND 3
+
+-- of a call's answer: a record that is given is replayed
+pub with-replay : {Γ fn fs ws out fs′ ws′ out′ : List ℕ} {r : Ghosts} → Whole Γ fn fs ws out fs′ ws′ out′ r
+    → Whole Γ fn fs ws out fs′ ws′ out′ r × ((a b : ℕ) → r ≡ Done a b → Replayed Γ fn out′)
+with-replay {Γ} {fn} {fs} {ws} {out} W = (
+  W,
+  λ a b e. split-answer ((whole Γ fn (length fs) (length ws) (length out)) .answer)
+      (λ n p. let q = W .answer in clash (cc))
+      (λ c p. rw (W .record-is) (demand-3 Γ fn (length fs) (length ws) (length out) c p)),
+)

@@ -1,0 +1,143 @@
+-- `fold_unfold::run::analyse` meets its contract: zeros are the memory before the first pass, what that leaves is the memory before the
+-- second, and both are model's. Assumes nothing.
+use borrow.Author.Needs.{needs}
+use mathlib.Core.Path.{refl}
+use Rattle.fold_unfold.specs.Runs.{blank, again}
+use Rattle.fold_unfold.proofs.Begun.{zeros-remembered, ranks-there}
+use Rattle.fold_unfold.proofs.Both.{first-stops, first-goes, second-begins, second-ends}
+use Rattle.fold_unfold.proofs.run.analyse.Statement.{statement}
+use Rattle.fold_unfold.proofs.run.analyse.Tie as tie
+
+nlocals-requires : tie.Need-nlocals-requires
+nlocals-requires c κs = search needs
+
+nblocks-requires : tie.Need-nblocks-requires
+nblocks-requires c κs = search needs
+
+add-a : tie.Need-add-a
+add-a c = search needs
+
+add-a-2 : tie.Need-add-a-2
+add-a-2 c = search needs
+
+add-e : tie.Need-add-e
+add-e c = search needs
+
+mul-ranks : tie.Need-mul-ranks
+mul-ranks c = search needs
+
+sub-ranks : tie.Need-sub-ranks
+sub-ranks c = search needs
+
+part-ranks-start : tie.Need-part-ranks-start
+part-ranks-start c = search needs
+
+part-ranks-end : tie.Need-part-ranks-end
+part-ranks-end c = search needs
+
+slice-aggregate-run : tie.Need-slice-aggregate-run
+slice-aggregate-run c = search needs
+
+run-requires : tie.Need-run-requires
+run-requires c κs =
+    let n = c .before .before .before .before .before in
+    let s = n .before .before .before .before .before .before .before .before .before in
+    let A = s .pre .0 in (
+      A,
+      (
+        s .pre .1 .0,
+        (
+          ranks-there _ _ _ (A .formed .laid) (n .before .nlocals .ensures) (n .nblocks .ensures),
+          record {
+            memory = blank;
+            is = zeros-remembered (s .pre .1 .1 .0) (s .pre .1 .1 .1);
+            starts = refl;
+          },
+        ),
+      ),
+    )
+
+enum-told : tie.Need-enum-told
+enum-told c = search needs
+
+enum-told-2 : tie.Need-enum-told-2
+enum-told-2 c = search needs
+
+same-length : tie.Need-same-length
+same-length c = search needs
+
+same-length-2 : tie.Need-same-length-2
+same-length-2 c = search needs
+
+same-length-3 : tie.Need-same-length-3
+same-length-3 c = search needs
+
+returns : tie.Need-returns
+returns c =
+    let r = c .before .before .before .before .before .before .before .before .before in
+    let s = r .before .before .before .before .before .before .before .before .before .before .before .before .before .before .before in
+    first-stops (r .run .ensures blank refl (zeros-remembered (s .pre .1 .1 .0) (s .pre .1 .1 .1))) (c .enum-told2 .given .1)
+
+slice-aggregate-run-2 : tie.Need-slice-aggregate-run-2
+slice-aggregate-run-2 c = search needs
+
+run-requires-2 : tie.Need-run-requires-2
+run-requires-2 c κs =
+    let r = c .before .before .before .before .before .before .before .before .before .before .before .before .before in
+    let n = r .before .before .before .before .before .before in
+    let s = n .before .before .before .before .before .before .before .before .before in
+    let A = s .pre .0 in (
+      A,
+      (
+        s .pre .1 .0,
+        (
+          ranks-there _ _ _ (A .formed .laid) (n .before .nlocals .ensures) (n .nblocks .ensures),
+          second-begins (first-goes (r .run .ensures blank refl (zeros-remembered (s .pre .1 .1 .0) (s .pre .1 .1 .1))) (c .before .before .before .before .enum-told .given .1)),
+        ),
+      ),
+    )
+
+same-length-4 : tie.Need-same-length-4
+same-length-4 c = search needs
+
+same-length-5 : tie.Need-same-length-5
+same-length-5 c = search needs
+
+same-length-6 : tie.Need-same-length-6
+same-length-6 c = search needs
+
+returns-2 : tie.Need-returns-2
+returns-2 c =
+    let r = c .before .before .before .before .before .before .before .before .before .before .before .before .before .before .before .before .before .before .before .before .before in
+    let s = r .before .before .before .before .before .before .before .before .before .before .before .before .before .before .before in
+    let E = r .run .ensures blank refl (zeros-remembered (s .pre .1 .1 .0) (s .pre .1 .1 .1)) in
+    let H = first-goes E (c .before .before .before .before .before .before .before .before .before .before .before .before .enum-told .given .1) in
+    second-ends H (c .before .before .before .before .before .before .before .run2 .ensures (again (H .memory .kept)) (H .memory .kept, refl, H .inferred) (H .remembers)) (E .same-forms) (E .same-whats) (E .same-out)
+
+pub analyse-spec : {M : Type 1} → statement M
+analyse-spec =
+    tie.close
+    (tie.spec
+    nlocals-requires
+    nblocks-requires
+    add-a
+    add-a-2
+    add-e
+    mul-ranks
+    sub-ranks
+    part-ranks-start
+    part-ranks-end
+    slice-aggregate-run
+    run-requires
+    enum-told
+    enum-told-2
+    same-length
+    same-length-2
+    same-length-3
+    returns
+    slice-aggregate-run-2
+    run-requires-2
+    same-length-4
+    same-length-5
+    same-length-6
+    returns-2)

@@ -1,0 +1,124 @@
+-- The entry's uses of the folded locals, and the jump to the start block. Assumes nothing.
+use mathlib.Core.Path.{_≡_, refl}
+use mathlib.Core.Bool.{true}
+use mathlib.Core.List.{[]}
+use Prim.Native.Nat.{_-_}
+use native.Mathlib.Omega.{arith}
+use borrow.Author.Needs.{needs}
+use Rattle.model.specs.Tree.{leaves}
+use Rattle.model.specs.Function.{start, local-types}
+use Rattle.base.specs.Function.{FunctionFacts, function-facts}
+use Rattle.records.specs.Here.{Holds}
+use Rattle.state.specs.Value.{value}
+use Rattle.body.specs.Uses.{uses, Passes}
+use Rattle.visit.specs.Memory.{Memory}
+use Rattle.fold_unfold.specs.Runs.{entered}
+use Rattle.fold_unfold.proofs.Changed.{remembers-lines, remembers-entered, visits-after}
+use Rattle.fold_unfold.proofs.Opening.{folded-holds, fresh-counted, entry-refused, entry-passed, opens-jumps}
+use Rattle.fold_unfold.proofs.run.open_pass.Statement.{statement}
+use Rattle.fold_unfold.proofs.run.open_pass.Tie as tie
+
+-- what the function record says
+facts : (c : tie.Start) → FunctionFacts (c .args .fun .now)
+facts c = function-facts (c .args .types .now) (c .args .fun .now) (c .pre .0 .function)
+
+-- all locals are folded
+opening : (c : tie.After-folded) → Holds (c .before .before .before .before .before .before .before .before .before .before .before .before .args .types .now) (local-types (c .before .before .before .before .before .before .before .before .before .before .before .before .args .fun .now)) (value (c .folded .result)) (leaves (local-types (c .before .before .before .before .before .before .before .before .before .before .before .before .args .fun .now)))
+opening c = folded-holds _ (facts (c .before .before .before .before .before .before .before .before .before .before .before .before)) (c .folded .result) (c .before .nlocals .ensures) (c .folded .ensures)
+
+-- the entry's uses
+passes : (c : tie.After-pass-items) → Passes (c .before .before .before .before .before .before .before .before .before .before .before .before .before .before .before .args .types .now) (c .before .before .before .before .before .before .before .before .before .before .before .before .before .before .before .args .fun .now) (c .before .before .before .before .before .before .before .before .before .before .before .before .before .before .before .args .recording) (c .before .before .before .before .before .before .before .before .before .before .before .before .before .before .before .args .out .now)
+    (record { statements = 0; entries = 0 }) (c .pass-items .last .1 .1 .1 .1 .1 .1 .1 .1 .0)
+    (uses (c .before .before .before .before .before .before .before .before .before .before .before .before .before .before .before .args .types .now) (c .before .before .before .before .before .before .before .before .before .before .before .before .before .before .before .args .fun .now) true (start (c .before .before .before .before .before .before .before .before .before .before .before .before .before .before .before .args .fun .now) 0) 0 (leaves (local-types (c .before .before .before .before .before .before .before .before .before .before .before .before .before .before .before .args .fun .now)))) (c .pass-items .result)
+passes c =
+    let n : c .before .before .start-of .result - 0 ≡ start (c .before .before .before .before .before .before .before .before .before .before .before .before .before .before .before .args .fun .now) 0 = omega (arith, c .before .before .start-of .ensures) in
+    rw n at (c .pass-items .ensures (leaves (local-types (c .before .before .before .before .before .before .before .before .before .before .before .before .before .before .before .args .fun .now))) (opening (c .before .before .before)))
+
+nlocals-requires : tie.Need-nlocals-requires
+nlocals-requires c κs = search needs
+
+folded-requires : tie.Need-folded-requires
+folded-requires c κs = search needs
+
+start-of-requires : tie.Need-start-of-requires
+start-of-requires c κs = search needs
+
+pass-items-requires : tie.Need-pass-items-requires
+pass-items-requires c κs =
+    let s = c .before .before .before .before .before .before .before .before .before .before .before .before .before .before in
+    let F = facts s in
+    let i = F .starts-inside 0 (F .some-blocks) in
+    (s .pre .0, (omega (arith, i, c .before .start-of .ensures), (record { state = leaves (local-types (s .args .fun .now)); holds = opening (c .before .before) }, fresh-counted (s .args .out .now))))
+
+same-length : tie.Need-same-length
+same-length c = search needs
+
+returns : tie.Need-returns
+returns c = λ m l R. entry-refused (passes (c .before .before .before .before)) (c .if1 .taken) _ m
+
+nblocks-requires : tie.Need-nblocks-requires
+nblocks-requires c κs = c .before .before .before .before .before .before .before .before .before .before .before .before .before .before .before .before .before .before .before .before .before .before .before .before .before .before .pre .0 .formed .laid
+
+goto-requires : tie.Need-goto-requires
+goto-requires c κs =
+    let s = c .before .before .before .before .before .before .before .before .before .before .before .before .before .before .before .before .before .before .before .before .before .before .before .before .before .before .before in
+    let H = s .pre .1 .1 in
+    let N = entry-passed (passes (c .before .before .before .before .before .before .before .before .before .before .before .before)) (c .before .before .before .before .before .before .before .before .if1 .left) in
+    let F = facts s in
+    let m : Memory = record { kept = H .memory .kept; waits = H .memory .waits; visited = H .memory .visited; lines = [] } in (
+      s .pre .0,
+      (
+        s .pre .1 .0,
+        (
+          record {
+            memory = entered (s .args .types .now) (s .args .fun .now) (s .args .recording) (N .entry .1) m;
+            is = remembers-entered (remembers-lines (H .is) []) (s .args .recording) (N .entry .1);
+            spoken = N .spoken m refl;
+          },
+          ((omega (arith, F .starts-inside 0 (F .some-blocks)), F .some-blocks), record { state = N .entry .0; holds = N .holds }),
+        ),
+      ),
+    )
+
+same-length-2 : tie.Need-same-length-2
+same-length-2 c = search needs
+
+same-length-3 : tie.Need-same-length-3
+same-length-3 c = search needs
+
+same-length-4 : tie.Need-same-length-4
+same-length-4 c = search needs
+
+same-length-5 : tie.Need-same-length-5
+same-length-5 c = search needs
+
+same-length-6 : tie.Need-same-length-6
+same-length-6 c = search needs
+
+returns-2 : tie.Need-returns-2
+returns-2 c = λ m l R.
+    let s = c .before .before .before .before .before .before .before .before .before .before .before .before .before .before .before .before .before .before .before .before .before .before .before .before .before .before .before .before .before .before .before .before .before .before .before .before .before .before in
+    let N = entry-passed (passes (c .before .before .before .before .before .before .before .before .before .before .before .before .before .before .before .before .before .before .before .before .before .before .before)) (c .before .before .before .before .before .before .before .before .before .before .before .before .before .before .before .before .before .before .before .if1 .left) in
+    let n = c .before .before .before .before .before .before .before .before .before .before .before .nblocks .ensures in
+    rw (opens-jumps N m)
+    (visits-after (record { kept = refl; visited = refl; waits = refl; forms = refl; whats = refl }) ((passes (c .before .before .before .before .before .before .before .before .before .before .before .before .before .before .before .before .before .before .before .before .before .before .before)) .same)
+    (rw n at (c .before .before .before .before .before .before .before .before .before .before .goto .ensures (entered (s .args .types .now) (s .args .fun .now) (s .args .recording) (N .entry .1) m) (N .entry .0) (remembers-entered R (s .args .recording) (N .entry .1)) (N .spoken m l) (N .holds))))
+
+pub open-pass-spec : {M : Type 1} → statement M
+open-pass-spec =
+    tie.close
+    (tie.spec
+    nlocals-requires
+    folded-requires
+    start-of-requires
+    pass-items-requires
+    same-length
+    returns
+    nblocks-requires
+    goto-requires
+    same-length-2
+    same-length-3
+    same-length-4
+    same-length-5
+    same-length-6
+    returns-2)

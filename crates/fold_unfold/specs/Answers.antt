@@ -1,0 +1,60 @@
+-- The code's answer as model's.
+use mathlib.Core.Path.{_≡_}
+use mathlib.Core.Logic.{_≢_}
+use mathlib.Core.Bool.{cond}
+use mathlib.Core.List.{List}
+use Prim.Native.Nat.{ℕ, _*_, _≤_}
+use lib.ListN.{length}
+use lib.Dec.{leb}
+use Rattle.model.specs.Answer.{Answer, refused, done}
+use Rattle.model.specs.Tree.{Forest}
+use Rattle.model.specs.Place.{At}
+use Rattle.model.specs.State.{most}
+use Rattle.model.specs.Block.{entry-point, join-points}
+use Rattle.model.specs.Passes.{Found}
+use Rattle.model.specs.Record.{entries, lent}
+use Rattle.model.specs.Whole.{passes, ghost-statements, shares, whole}
+use Rattle.statements.specs.Kept.{Counted, Kept}
+use Rattle.statements.specs.declared.Out.{Out}
+use Rattle.body.specs.Given.{Accepted}
+use Rattle.visit.specs.Shares.{Shared}
+use Rattle.visit.specs.declared.block.Visit.{Visit}
+use Rattle.visit.specs.declared.block.Visit.the-variants.{Over, Refused as Stopped}
+use Rattle.fold_unfold.specs.declared.Ghosts.{Ghosts}
+use Rattle.fold_unfold.specs.declared.Ghosts.the-variants.{Done, Refused}
+
+-- the counts of statements and entries, or the refusal
+abbrev pub answer-of : Answer (ℕ × ℕ) → Ghosts
+answer-of (refused n) = Refused n
+answer-of (done c) = Done (c .0) (c .1)
+
+-- the call's answer and all that was lent, to the last word
+pub record Whole (Γ fn fs ws out fs′ ws′ out′ : List ℕ) (r : Ghosts) : Type 0 where
+  pub answer : r ≡ answer-of ((whole Γ fn (length fs) (length ws) (length out)) .answer)
+  pub forms : fs′ ≡ (whole Γ fn (length fs) (length ws) (length out)) .forms
+  pub whats : ws′ ≡ (whole Γ fn (length fs) (length ws) (length out)) .whats
+  pub record-is : out′ ≡ (whole Γ fn (length fs) (length ws) (length out)) .out
+
+-- the records pass, the arrays that the passes read are filled, and the store is large enough
+pub record Clear (Γ fn : List ℕ) (nforms nwhats : ℕ) (offs points : List ℕ) : Type 0 where
+  pub accepted : Accepted Γ offs fn
+  pub shared : Shared fn points
+  pub forms : most * join-points fn ≤ nforms
+  pub whats : most * join-points fn ≤ nwhats
+
+-- what is tested before the passes: r is the refusal, or 0
+pub record Checked (Γ fn : List ℕ) (nforms nwhats : ℕ) (offs points : List ℕ) (r : ℕ) : Type 0 where
+  pub denied : r ≢ 0 → ghost-statements Γ fn (cond (leb nforms nwhats) nforms nwhats) ≡ refused r
+  pub passed : r ≡ 0 → ghost-statements Γ fn (cond (leb nforms nwhats) nforms nwhats) ≡ passes Γ fn
+  pub clear : r ≡ 0 → Clear Γ fn nforms nwhats offs points
+
+-- what both passes leave, of records that pass
+pub record Analysed (Γ fn fs ws out fs′ ws′ out′ : List ℕ) (r : Visit) : Type 0 where
+  pub same-forms : length fs′ ≡ length fs
+  pub same-whats : length ws′ ≡ length ws
+  pub same-out : length out′ ≡ length out
+  pub denied : (n : ℕ) → passes Γ fn ≡ refused n → r ≡ Stopped n
+  pub forms : (f : Found Forest At) → passes Γ fn ≡ done f → fs′ ≡ lent (length fs) (shares Γ fn (λ s. s .forms) (f .kept))
+  pub whats : (f : Found Forest At) → passes Γ fn ≡ done f → ws′ ≡ lent (length ws) (shares Γ fn (λ s. s .whats) (f .kept))
+  pub over : (f : Found Forest At) → passes Γ fn ≡ done f
+      → (o : Out) × (r ≡ Over o) × Counted out′ o × Kept (length (f .lines)) (entries (entry-point fn) (f .lines)) out′ o

@@ -1,0 +1,3 @@
+-- What the contracts of fold_unfold cite beside the definitions of model.
+pub mod Runs
+pub mod Answers

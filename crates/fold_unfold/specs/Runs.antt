@@ -1,0 +1,98 @@
+-- The two passes over the memory that both share: the opening of a pass, one popped block, the rounds that are left.
+use mathlib.Core.Path.{_≡_}
+use mathlib.Core.Bool.{Bool, true, false}
+use mathlib.Core.List.{List, [], _∷_, _++_}
+use mathlib.Core.Option.{Option, none, some}
+use Prim.Native.Nat.{ℕ, _<_}
+use lib.ListN.{length}
+use Rattle.model.specs.Words.{word}
+use Rattle.model.specs.Answer.{Answer, refused, done, _>>=_}
+use Rattle.model.specs.Tree.{Forest, leaves}
+use Rattle.model.specs.Place.{At}
+use Rattle.model.specs.Function.{nblocks, rank, local-types}
+use Rattle.model.specs.Block.{entry-uses, entry-point}
+use Rattle.model.specs.Frame.{mark, opening-exit}
+use Rattle.model.specs.Rounds.{run-rounds}
+use Rattle.model.specs.Passes.{Store, solve, infer, round-two, unvisited}
+use Rattle.model.specs.Body.{enter-uses, frame}
+use Rattle.statements.specs.declared.Out.{Out}
+use Rattle.visit.specs.Shares.{Arrays, arrays, Remembers}
+use Rattle.visit.specs.Visits.{Spoken}
+use Rattle.visit.specs.declared.block.Visit.{Visit}
+use Rattle.visit.specs.declared.block.Visit.the-variants.{Over, Refused}
+use Rattle.visit.specs.Memory.{Memory, store-of, with-store, log-of, with-log, enters, jumps}
+
+-- the block b is visited
+abbrev pub visiting : ℕ → Memory → Memory
+visiting b m = record { kept = m .kept; waits = m .waits; visited = b ∷ m .visited; lines = m .lines }
+
+module _ (Γ fn : List ℕ) where
+  -- the entry's own lines, if the pass records
+  abbrev pub entered : Bool → List At → Memory → Memory
+  entered false ts m = m
+  entered true ts m = record { kept = m .kept; waits = m .waits; visited = m .visited; lines = m .lines ++ mark (entry-point fn) ts }
+
+  -- the opening of a pass: the entry's uses, and the jump to the start block
+  unfoldable pub opens : Bool → Memory → Answer Memory
+  opens recording m = enter-uses Γ (entry-uses fn) (leaves (local-types fn))
+      >>= λ r. jumps Γ fn recording (nblocks fn) (opening-exit (frame Γ fn) (r .0)) (entered recording (r .1) m)
+
+  -- the rounds that are left
+  abbrev pub rest : Bool → Memory → Answer Memory
+  rest false m = solve (frame Γ fn) (store-of m) >>= λ s. done (with-store m s)
+  rest true m = run-rounds (round-two (frame Γ fn) (m .kept)) (unvisited (frame Γ fn) (m .kept)) (log-of m) >>= λ g. done (with-log m g)
+
+  -- a whole pass
+  unfoldable pub pass : Bool → Memory → Answer Memory
+  pass recording m = opens recording m >>= rest recording
+
+-- nothing is stored, nothing waits
+abbrev pub blank : Memory
+blank = record { kept = λ b. none; waits = λ b. false; visited = []; lines = [] }
+
+-- where the second pass begins: what the first has stored
+abbrev pub again : (ℕ → Option Forest) → Memory
+again kept = record { kept = kept; waits = λ b. false; visited = []; lines = [] }
+
+-- a state is stored for the block b
+pub record Stored (Γ fn : List ℕ) (recording : Bool) (b : ℕ) (a : Arrays) (out : List ℕ) (o : Out) : Type 0 where
+  pub below : b < nblocks fn
+  pub memory : Memory
+  pub is : Remembers Γ fn memory a
+  pub spoken : Spoken fn recording (memory .lines) out o
+  pub state : Forest
+  pub there : memory .kept b ≡ some state
+
+-- a first pass that is not refused, and what it has stored
+pub record Inferred (Γ fn : List ℕ) (kept : ℕ → Option Forest) : Type 0 where
+  pub entry : Forest × List At
+  pub enters : enter-uses Γ (entry-uses fn) (leaves (local-types fn)) ≡ done entry
+  pub store : Store Forest
+  pub infers : infer (frame Γ fn) (entry .0) ≡ done store
+  pub same : store .kept ≡ kept
+
+-- the memory with which a pass begins
+abbrev pub Starts : (Γ fn : List ℕ) → Bool → Memory → Type 0
+Starts Γ fn false m = m ≡ blank
+Starts Γ fn true m = (kept : ℕ → Option Forest) × (m ≡ again kept) × Inferred Γ fn kept
+
+-- the ranks of all blocks
+pub record Ranked (fn ranks : List ℕ) : Type 0 where
+  pub long : length ranks ≡ nblocks fn
+  pub ranks-are : (b : ℕ) → b < nblocks fn → word ranks b ≡ rank fn b
+
+-- a pass begins
+pub record Begins (Γ fn : List ℕ) (recording : Bool) (a : Arrays) : Type 0 where
+  pub memory : Memory
+  pub is : Remembers Γ fn memory a
+  pub starts : Starts Γ fn recording memory
+
+-- model's answer a to a pass, in what outlives it
+pub record Ends (Γ fn : List ℕ) (recording : Bool) (kept fs ws out : List ℕ) (a : Answer Memory) (kept′ fs′ ws′ out′ : List ℕ) (r : Visit) : Type 0 where
+  pub same-kept : length kept′ ≡ length kept
+  pub same-forms : length fs′ ≡ length fs
+  pub same-whats : length ws′ ≡ length ws
+  pub same-out : length out′ ≡ length out
+  pub denied : (n : ℕ) → a ≡ refused n → r ≡ Refused n
+  pub over : (m : Memory) → a ≡ done m
+      → (o : Out) × (v : List ℕ) × (w : List ℕ) × (r ≡ Over o) × Remembers Γ fn m (arrays kept′ v w fs′ ws′) × Spoken fn recording (m .lines) out′ o

@@ -1,0 +1,110 @@
+// The whole-function call: the statements of a function.
+ghost use mathlib.Core.Path.{_≡_};
+ghost use Prim.Native.Nat.{ℕ, _≤_};
+ghost use lib.ListN.{length, getD, replicate};
+ghost use Rattle.model.specs.Replay.{Replayed};
+ghost use Rattle.fold_unfold.specs.Answers.{Whole, Checked};
+ghost use Rattle.fold_unfold.specs.declared.Ghosts.the-variants.{Done};
+
+pub mod run;
+
+use blocks::join_points::fill_join_points;
+use blocks::place::places_ok;
+use mir::check_function::check_function;
+use run::analyse;
+use statements::finish;
+use statements::wipe;
+use type_record::check_types::check_types;
+use visit::block::Visit;
+
+// The counts of statements and entries, or the refusal.
+pub enum Ghosts {
+    Done { statements: usize, entries: usize },
+    Refused(u32),
+}
+
+fn wipe16(a: &mut [u16])
+    ensures { λ r. ⌜ now (a .exit) ≡ replicate (length (now (a .entry))) 0 ⌝ }
+{
+    let n = a.len();
+    let mut i = 0;
+    while i < n {
+        a[i] = 0;
+        i += 1;
+    }
+}
+
+// Refusals 1, 2, 4, and 10 for the store, or 0. offs then has the offsets of the parts, points the numbers of the shares.
+fn checked(
+    types: &[u32],
+    fun: &[u32],
+    offs: &mut [u32],
+    points: &mut [u32],
+    forms: usize,
+    whats: usize,
+) -> u32
+    requires { ⌜ (4096 ≤ length (now offs)) × (256 ≤ length (now points)) ⌝ }
+    requires { ⌜ ((c : ℕ) → getD (now points) c 0 ≡ 0) ⌝ }
+    ensures { λ r. ⌜ Checked (now (types .entry)) (now (fun .entry)) forms whats (now (offs .exit)) (now (points .exit)) r ⌝ }
+{
+    if !check_types(types, offs) {
+        return 1;
+    }
+    if !check_function(types, fun) {
+        return 2;
+    }
+    if !places_ok(fun) {
+        return 4;
+    }
+    let k = 512 * fill_join_points(fun, points);
+    if forms < k {
+        return 10;
+    }
+    if whats < k {
+        return 10;
+    }
+    0
+}
+
+// `add_ghost_statements`: the statements of a function. A refusal leaves zeros in all that was lent.
+pub fn ghost_statements(
+    types: &[u32],
+    fun: &[u32],
+    forms: &mut [u16],
+    whats: &mut [u16],
+    out: &mut [u32],
+) -> Ghosts
+    ensures { λ r. ⌜ Whole (now (types .entry)) (now (fun .entry)) (now (forms .entry)) (now (whats .entry)) (now (out .entry)) (now (forms .exit)) (now (whats .exit)) (now (out .exit)) r ⌝ }
+    ensures replayed { λ r. ⌜ ((a b : ℕ) → r ≡ Done a b → Replayed (now (types .entry)) (now (fun .entry)) (now (out .exit))) ⌝ }
+{
+    let mut offs = [0u32; 4096];
+    let mut points = [0u32; 256];
+    wipe16(forms);
+    wipe16(whats);
+    wipe(out);
+    let r = checked(types, fun, &mut offs, &mut points, forms.len(), whats.len());
+    if r != 0 {
+        return Ghosts::Refused(r);
+    }
+    let v = analyse(types, &offs, fun, &points, forms, whats, out);
+    match v {
+        Visit::Refused(n) => {
+            wipe16(forms);
+            wipe16(whats);
+            wipe(out);
+            Ghosts::Refused(n)
+        }
+        Visit::Over(o) => {
+            if finish(out, o) {
+                Ghosts::Done {
+                    statements: o.statements,
+                    entries: o.entries,
+                }
+            } else {
+                wipe16(forms);
+                wipe16(whats);
+                Ghosts::Refused(10)
+            }
+        }
+    }
+}

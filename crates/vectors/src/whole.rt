@@ -1,0 +1,70 @@
+// The whole-function call.
+ghost use mathlib.Core.Path.{_≡_};
+ghost use Prim.Native.Nat.{_≤_};
+ghost use lib.ListN.{length};
+use crate::lists::end_of;
+use crate::lists::list;
+use crate::lists::number;
+use fold_unfold::Ghosts;
+use fold_unfold::ghost_statements;
+use stream::print_halves;
+use stream::print_number;
+use stream::print_words;
+use type_record::record::wide;
+
+// An array of the store as it is lent: not zeros, so that it shows what is left in it.
+fn store() -> [u16; 16384]
+    ensures { λ r. ⌜ length r ≡ 16384 ⌝ }
+{
+    [7; 16384]
+}
+
+fn buffer() -> [u32; 4096]
+    ensures { λ r. ⌜ length r ≡ 4096 ⌝ }
+{
+    [7; 4096]
+}
+
+// How much is lent.
+fn least(n: u32, most: usize) -> usize
+    ensures { λ r. ⌜ r ≤ most ⌝ }
+{
+    let k = wide(n);
+    if k < most { k } else { most }
+}
+
+fn answered(types: &[u32], fun: &[u32], forms: &mut [u16], whats: &mut [u16], out: &mut [u32]) {
+    let r = ghost_statements(types, fun, forms, whats, out);
+    match r {
+        Ghosts::Refused(n) => print_number(wide(n)),
+        Ghosts::Done {
+            statements,
+            entries,
+        } => {
+            print_number(0);
+            print_number(statements);
+            print_number(entries);
+        }
+    }
+    print_words(out);
+    print_halves(forms);
+    print_halves(whats);
+}
+
+// The lengths of the store's arrays and of the buffer, then both records.
+pub fn call(words: &[u32]) {
+    let mut forms = store();
+    let mut whats = store();
+    let mut out = buffer();
+    let f = least(number(words, 0, 0), 16384);
+    let w = least(number(words, 0, 1), 16384);
+    let o = least(number(words, 0, 2), 4096);
+    let a = end_of(words, 3);
+    answered(
+        list(words, 3),
+        list(words, a),
+        &mut forms[..f],
+        &mut whats[..w],
+        &mut out[..o],
+    );
+}

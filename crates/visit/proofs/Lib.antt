@@ -1,0 +1,23 @@
+-- What the proofs of several functions use.
+-- a share as a state
+pub mod Stored
+-- an arrival in the first pass
+pub mod Arrived
+-- statements at one point
+pub mod Lines
+-- an arrival in the second pass
+pub mod Told
+-- the shares of the store
+pub mod Shelves
+-- what an arrival leaves of them
+pub mod Stores
+-- what is recorded
+pub mod Heard
+-- an arrival as a visit
+pub mod Arrivals
+-- model's steps
+pub mod Steps
+-- a block that is entered
+pub mod Entering
+-- a block that is left
+pub mod Leaving

@@ -1,0 +1,49 @@
+-- An arrival in the second pass: what `reconcile` leaves, by what is collected. Assumes nothing.
+use mathlib.Core.Path.{_≡_, refl}
+use mathlib.Core.Bool.{cond}
+use mathlib.Core.List.{List}
+use mathlib.Core.Option.{none}
+use Prim.Native.Nat.{ℕ}
+use lib.Dec.{eqb}
+use lib.ListN.{length, set}
+use Rattle.model.specs.Words.{word}
+use Rattle.model.specs.Answer.{Answer}
+use Rattle.model.specs.Tree.{Forest}
+use Rattle.model.specs.Place.{At}
+use Rattle.model.specs.Block.{entry-point}
+use Rattle.model.specs.Record.{Entry, point-entry}
+use Rattle.base.specs.Tests.{clash}
+use Rattle.statements.specs.declared.Out.{Out}
+use Rattle.collect.specs.declared.states.Collected.{Collected}
+use Rattle.collect.specs.declared.states.Collected.the-variants as collected
+use Rattle.collect.specs.Answers.{Collects}
+use Rattle.visit.specs.declared.block.Visit.the-variants.{Over, Refused}
+use Rattle.visit.specs.Visits.{owed, Reconciles}
+use Rattle.visit.proofs.Lines.{lines-at}
+
+-- where nothing is stored
+pub reconciles-none : (Γ : List ℕ) (E : Forest) {fn : List ℕ} {p c : ℕ} {visited waits out : List ℕ} {o : Out}
+    → Reconciles fn p c visited waits out o (owed Γ none E) waits out (Refused 0)
+unfolding owed
+reconciles-none Γ E = record { same = refl; denied = λ n d. cc; told = λ ts d. clash (cc); waiting = λ ts d. clash (cc) }
+
+-- by what is collected at the point p, whose entry is x
+module _ {fn : List ℕ} {p : ℕ} {x : Entry} (here : x ≡ point-entry (entry-point fn) p) {out out′ : List ℕ} {o : Out} {a : Answer (List At)} {r : Collected}
+    (long : length out′ ≡ length out) (k : Collects x out o out′ a r) {c : ℕ} {visited waits waits′ : List ℕ} where
+  -- a refusal
+  pub reconciles-refused : {n : ℕ} → r ≡ collected.Refused n → Reconciles fn p c visited waits out o a waits′ out′ (Refused n)
+  reconciles-refused {n} e =
+      let y = k .stopped n e in
+      record { same = long; denied = λ m d. cc; told = λ ts d. clash (cc); waiting = λ ts d. clash (cc) }
+
+  -- lines recorded
+  pub reconciles-over : {q : Out} → r ≡ collected.Done q → waits′ ≡ cond (eqb (word visited c) 0) (set waits c 1) waits
+      → Reconciles fn p c visited waits out o a waits′ out′ (Over q)
+  reconciles-over {q} e w =
+      let (b, y, put) = k .recorded q e in
+      record {
+        same = long;
+        denied = λ m d. clash (cc);
+        told = λ ts d. let same : b ≡ ts = cc in (q, refl, rw (same, lines-at (entry-point fn) p here ts) at put);
+        waiting = λ ts d. w;
+      }
