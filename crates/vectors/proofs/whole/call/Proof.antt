@@ -19,8 +19,8 @@ use Rattle.vectors.proofs.whole.least.Reads as least-reads
 use Rattle.vectors.proofs.whole.store.Reads as store-reads
 
 -- a front that is lent is as long as is said
-front : {n m : ℕ} {l : List ℕ} → n ≤ m → length l ≡ m → n ≡ length (take n l)
-front {n} {m} {l} h e = sym (length-take-le n l (omega arith))
+front : {n m : ℕ} (l : List ℕ) → n ≤ m → length l ≡ m → n ≡ length (take n l)
+front {n} {m} l h e = sym (length-take-le n l (omega arith))
 
 -- src/whole.rt:56:21
 store-requires : tie.Need-store-requires
@@ -76,7 +76,7 @@ array-borrow-prefix-forms c = search needs
 
 -- src/whole.rt:66:9
 slice-aggregate-answered : tie.Need-slice-aggregate-answered
-slice-aggregate-answered c = front (c .before .before .before .before .before .before .before .before .least .ensures) (c .before .before .before .before .before .before .before .before .before .before .before .before .store .ensures)
+slice-aggregate-answered c = front (c .before .before .before .before .before .before .before .before .before .before .before .before .store .result) (c .before .before .before .before .before .before .before .before .least .ensures) (c .before .before .before .before .before .before .before .before .before .before .before .before .store .ensures)
 
 -- src/whole.rt:67:9
 array-borrow-prefix-whats : tie.Need-array-borrow-prefix-whats
@@ -84,7 +84,7 @@ array-borrow-prefix-whats c = search needs
 
 -- src/whole.rt:67:9
 slice-aggregate-answered-2 : tie.Need-slice-aggregate-answered-2
-slice-aggregate-answered-2 c = front (c .before .before .before .before .before .before .before .least2 .ensures) (c .before .before .before .before .before .before .before .before .before .before .before .before .store2 .ensures)
+slice-aggregate-answered-2 c = front (c .before .before .before .before .before .before .before .before .before .before .before .before .store2 .result) (c .before .before .before .before .before .before .before .least2 .ensures) (c .before .before .before .before .before .before .before .before .before .before .before .before .store2 .ensures)
 
 -- src/whole.rt:68:9
 array-borrow-prefix-out : tie.Need-array-borrow-prefix-out
@@ -92,7 +92,7 @@ array-borrow-prefix-out c = search needs
 
 -- src/whole.rt:68:9
 slice-aggregate-answered-3 : tie.Need-slice-aggregate-answered-3
-slice-aggregate-answered-3 c = front (c .before .before .before .before .before .before .least3 .ensures) (c .before .before .before .before .before .before .before .before .before .before .before .before .buffer .ensures)
+slice-aggregate-answered-3 c = front (c .before .before .before .before .before .before .before .before .before .before .before .before .buffer .result) (c .before .before .before .before .before .before .least3 .ensures) (c .before .before .before .before .before .before .before .before .before .before .before .before .buffer .ensures)
 
 -- src/whole.rt:63:5
 answered-requires : tie.Need-answered-requires
