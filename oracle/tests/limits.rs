@@ -96,6 +96,7 @@ const REFUSED: [(u32, &[&str]); 7] = [
     (
         9,
         &[
+            "blocks 256 in a chain with 513 nodes",
             "nodes 513 at Use",
             "nodes 513 at Walk",
             "nodes 513 at Arm",

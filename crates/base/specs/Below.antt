@@ -62,10 +62,6 @@ module _ (f : ℕ → ℕ) where
   sum-room i (suc n) h =
       below-suc h (λ e. subst (λ (k : ℕ). sum f i + f i ≤ sum f k + f k) e (le-refl _)) (λ l. omega (arith, sum-room i n l))
 
-  -- one summand is at most the sum
-  pub sum-summand : (i n : ℕ) → i < n → f i ≤ sum f n
-  sum-summand i n h = omega (arith, sum-room i n h)
-
   -- a longer sum is no smaller
   pub sum-longer : (m n : ℕ) → m ≤ n → sum f m ≤ sum f n
   sum-longer m n h = ⊎-elim (λ e. subst (λ (k : ℕ). sum f m ≤ sum f k) e (le-refl _)) (λ l. omega (arith, sum-room m n l)) (eq-or-lt-of-le h)
@@ -148,8 +144,3 @@ module _ (p : ℕ → Bool) where
   unfolding count-below sum
   count-none zero h = refl
   count-none (suc n) h = count-fail n (h n (omega arith)) ∙ count-none n (λ i l. h i (omega arith))
-
--- tests that agree count alike
-pub count-same : (p q : ℕ → Bool) (n : ℕ) → ((i : ℕ) → i < n → p i ≡ q i) → count-below p n ≡ count-below q n
-unfolding count-below
-count-same p q n h = sum-same (λ i. cond (p i) 1 0) (λ i. cond (q i) 1 0) n (λ i l. ap (λ (b : Bool). cond {A = ℕ} b 1 0) (h i l))

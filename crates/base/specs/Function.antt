@@ -1,5 +1,5 @@
 -- What a function record that passes is known to say of its sizes, starts and ranks, and of each item.
-use mathlib.Core.Path.{_≡_, sym, _∙_, subst}
+use mathlib.Core.Path.{_≡_, subst}
 use mathlib.Core.Logic.{_≢_, ⊎-elim}
 use mathlib.Core.Bool.{Bool, true, not, _&&_, _||_, true≢false}
 use mathlib.Core.List.{List}
@@ -8,13 +8,12 @@ use native.Mathlib.Nat.{le-of-suc-le-suc, eq-or-lt-of-le}
 use native.Mathlib.Omega.{arith}
 use lib.Dec.{eqb, ltb, leb}
 use lib.ListN.{length, drop, length-drop}
-use lib.Seq.{length-take-le, getD-take, getD-drop}
+use lib.Seq.{length-take-le}
 use borrow.Author.Tests.{ltb-true, ltb-false, lt-ltb, le-ltb, leb-true, eqb-true, eqb-false, not-true}
-use Rattle.model.specs.Words.{word, all}
+use Rattle.model.specs.Words.{all}
 use Rattle.model.specs.Function.{nlocals, nargs, nblocks, nitems, local-types, start, rank, op, arg, stop, may-follow, after, arg-ok, function-sizes, starts-ok, ranks-ok, items-from, items-ok, function-ok}
 use Rattle.base.specs.Tests.{split, and-left, and-right}
 use Rattle.base.specs.Below.{all-at}
-use Rattle.base.specs.Typed.{TypedLocals, locals-typed}
 
 -- what the words of a function record say
 pub record FunctionFacts (fn : List ℕ) : Type 0 where
@@ -145,52 +144,16 @@ module _ (Γ fn : List ℕ) (e : function-ok Γ fn ≡ true) where
   unfolding function-ok
   function-facts = facts-of fn (search (and-left, and-right)) (search (and-left, and-right)) (search (and-left, and-right)) (search (and-left, and-right))
 
-  -- and of its local types
-  pub function-locals : TypedLocals Γ (local-types fn)
-  unfolding function-ok
-  function-locals = locals-typed Γ (local-types fn) (search (and-left, and-right))
-
 module _ {fn : List ℕ} (h : FunctionFacts fn) where
-  -- a local's type lies inside the record
-  pub local-inside : (l : ℕ) → l < nlocals fn → 4 + l < length fn
-  local-inside l p = omega arith
-
-  -- so does a block's start
-  pub start-inside : (b : ℕ) → b < nblocks fn → 4 + nlocals fn + b < length fn
-  start-inside b p = omega arith
-
-  -- its rank
-  pub rank-inside : (b : ℕ) → b < nblocks fn → 4 + nlocals fn + nblocks fn + b < length fn
-  rank-inside b p = omega arith
-
-  -- an item's op
-  pub op-inside : (i : ℕ) → i < nitems fn → 4 + nlocals fn + nblocks fn + nblocks fn + i < length fn
-  op-inside i p = omega arith
-
-  -- its arg
-  pub arg-inside : (i : ℕ) → i < nitems fn → 4 + nlocals fn + nblocks fn + nblocks fn + nitems fn + i < length fn
-  arg-inside i p = omega arith
-
   -- as many local types as locals
   pub length-local-types : length (local-types fn) ≡ nlocals fn
   unfolding local-types
   length-local-types = length-take-le (nlocals fn) (drop 4 fn) (rw length-drop (omega arith))
 
-  -- each is a word of the record
-  pub local-type-at : (l : ℕ) → l < nlocals fn → word (local-types fn) l ≡ word fn (4 + l)
-  unfolding local-types
-  local-type-at l p = getD-take (nlocals fn) (drop 4 fn) l 0 p ∙ getD-drop 4 fn l 0
-
   -- a target names a block
   pub target-known : (i : ℕ) → i < nitems fn → op fn i ≡ 10 → arg fn i < nblocks fn
   unfolding arg-ok
   target-known i p e = ltb-true (arg fn i) (nblocks fn) (cc (h .args i p))
-
-  -- two blocks with one rank are one
-  pub ranks-injective : (b c : ℕ) → b < nblocks fn → c < nblocks fn → rank fn b ≡ rank fn c → b ≡ c
-  ranks-injective b c p q e =
-      split (ltb b c) (λ l. absurd (h .ranks-differ c b (ltb-true b c l) q e)) (λ l.
-      split (ltb c b) (λ m. absurd (h .ranks-differ b c (ltb-true c b m) p (sym e))) (λ m. omega (arith, ltb-false b c l, ltb-false c b m)))
 
   -- a block's items end where the next one's begin
   pub stop-next : (b : ℕ) → suc b < nblocks fn → stop fn b ≡ start fn (suc b)

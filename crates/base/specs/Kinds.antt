@@ -154,11 +154,6 @@ form-pos k h e =
     let table : all (λ j. shut j || ltb 0 (form j)) 11 ≡ true = refl in
     ltb-true 0 (form k) (cc (all-at (λ j. shut j || ltb 0 (form j)) 11 table k (omega arith)))
 
--- a shut kind has the form 0
-pub form-shut : (k : ℕ) → shut k ≡ true → form k ≡ 0
-unfolding form
-form-shut k e = shut-cases k e (λ h. rw h) (λ h. rw h) (λ h. rw h)
-
 -- OPEN NODES
 
 -- what may be open can be opened

@@ -18,5 +18,5 @@ pub mod Kinds
 pub mod Parts
 -- what a type record that passes refusal 1 says: `types-typed`; and local types that pass: `locals-typed`
 pub mod Typed
--- what a function record that passes refusal 2 says: `function-facts`, `function-locals`
+-- what a function record that passes refusal 2 says: `function-facts`
 pub mod Function

@@ -64,11 +64,6 @@ module _ (Γ : List ℕ) (t v : ℕ) where
   unfolding first
   first-other f = rw (ne-eqb (kind Γ t) 7 f)
 
-  -- so the types of an enum's
-  pub kids-enum : kind Γ t ≡ 7 → kids Γ t v ≡ parts Γ (part Γ t v) 1 (count Γ (part Γ t v) - 1)
-  unfolding kids
-  kids-enum e = rw (owner-enum e, first-enum e)
-
   -- and of any other type's
   pub kids-other : kind Γ t ≢ 7 → kids Γ t v ≡ parts Γ t 0 (count Γ t)
   unfolding kids

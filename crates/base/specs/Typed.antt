@@ -16,7 +16,7 @@ use Rattle.model.specs.State.{local-ok, locals-ok}
 use Rattle.base.specs.Tests.{and-left, and-right}
 use Rattle.base.specs.Below.{all-at, sum-room}
 use Rattle.base.specs.Kinds.{Known, types-sized, types-counted, types-each, types-known, pointer-cases, fielded-cases, open-cases, kind-known, pointer-not-enum, fielded-not-enum, openable-not-shut}
-use Rattle.base.specs.Parts.{owner-enum, owner-other, first-enum, first-other, kids-other, length-kids}
+use Rattle.base.specs.Parts.{owner-enum, owner-other, first-enum, first-other, kids-other}
 
 -- a part that is a place's type, below n
 pub record Placed (Γ : List ℕ) (n t j : ℕ) : Type 0 where
@@ -181,14 +181,6 @@ placed-wider : {Γ : List ℕ} {m n t j : ℕ} → Placed Γ m t j → m ≤ n �
 placed-wider h l = record { below = omega (arith, h .below); no-variant = h .no-variant }
 
 module _ {Γ : List ℕ} (h : Typed Γ) where
-  -- a type's kind lies inside the record
-  pub kind-inside : (t : ℕ) → t < ntypes Γ → 2 + t < length Γ
-  kind-inside t l = omega arith
-
-  -- and its count
-  pub count-inside : (t : ℕ) → t < ntypes Γ → 2 + ntypes Γ + t < length Γ
-  count-inside t l = omega arith
-
   -- its parts are among the record's parts
   pub parts-inside : (t : ℕ) → t < ntypes Γ → offset Γ t + count Γ t ≤ nparts Γ
   unfolding offset
@@ -232,10 +224,6 @@ module _ {Γ : List ℕ} (h : Typed Γ) where
     -- and has the part from which on they are
     pub first-fits : first Γ t ≤ count Γ (owner Γ t v)
     first-fits = first-inside t v l (o .ranged)
-
-    -- the owner's parts are those before the first, and the children's types
-    pub owner-count : count Γ (owner Γ t v) ≡ first Γ t + length (kids Γ t v)
-    owner-count = omega (arith, first-fits, length-kids Γ t v)
 
     -- the children's types are places' types of the record
     pub kid-placed : (j : ℕ) → first Γ t ≤ j → j < count Γ (owner Γ t v) → Placed Γ (ntypes Γ) (owner Γ t v) j

@@ -1,7 +1,7 @@
 // Places, as runs of items: a root, then deref, field, downcast, index. Refusal 4.
 ghost use mathlib.Core.Path.{_≡_};
 ghost use mathlib.Core.Option.{some};
-ghost use Prim.Native.Nat.{ℕ, _<_, _≤_};
+ghost use Prim.Native.Nat.{_<_, _≤_};
 ghost use Rattle.model.specs.Place.{Spot, steps, usable, spot-ok, used-ok};
 ghost use Rattle.model.specs.Function.{nitems};
 ghost use Rattle.model.specs.Block.{root-before, uses-place, places-ok};

@@ -1,9 +1,10 @@
 // The items of a block up to its ender: each place used is projected, and recorded where the pass records.
 ghost use mathlib.Core.Path.{_≡_};
-ghost use mathlib.Core.Bool.{true, false};
-ghost use mathlib.Core.List.{List, _∷_};
+ghost use mathlib.Core.Bool.{Bool, true, false};
+ghost use mathlib.Core.List.{List, [], _∷_};
 ghost use Prim.Native.Nat.{ℕ, _-_, _≤_, _<_};
 ghost use lib.ListN.{length, take};
+ghost use Rattle.model.specs.Answer.{done};
 ghost use Rattle.model.specs.Tree.{Forest};
 ghost use Rattle.model.specs.State.{pairs};
 ghost use Rattle.model.specs.Function.{nitems, local-types};
@@ -13,16 +14,20 @@ ghost use Rattle.records.specs.Here.{Holds};
 ghost use Rattle.mir.specs.Sizes.{Laid};
 ghost use Rattle.state.specs.Value.{value};
 ghost use Rattle.statements.specs.Kept.{Counted, Puts};
+ghost use Rattle.env.specs.Given.{state-in};
 ghost use Rattle.body.specs.Given.{Accepted, Stated};
 ghost use Rattle.body.specs.Uses.{point, uses, Passes};
 use blocks::place::root_before;
 use blocks::place::uses_place;
 use env::project::Projected;
+use env::project::at_rest;
 use env::project::projection;
 use mir::function::args_from;
 use mir::function::local_types;
 use mir::function::ops_from;
 use state::nodes::State;
+use statements::BEFORE;
+use statements::ENTRY;
 use statements::FOLD;
 use statements::Out;
 use statements::Point;
@@ -47,10 +52,10 @@ pub fn point_of(i: usize, entry: bool) -> Point
     ensures { λ r. ⌜ ((fn : List ℕ) → Laid fn → i < nitems fn → (r .op, r .arg) ≡ point-entry (entry-point fn) (point fn entry i)) ⌝ }
 {
     if entry {
-        return Point { op: 14, arg: 0 };
+        return Point { op: ENTRY, arg: 0 };
     }
     Point {
-        op: 13,
+        op: BEFORE,
         arg: small(i),
     }
 }
@@ -133,6 +138,30 @@ fn use_place(
     }
 }
 
+// Does item i use a place, and does that change the state of these arrays, or is it refused?
+fn moves<'a>(
+    types: &[u32],
+    offs: &[u32],
+    fun: &[u32],
+    i: usize,
+    forms: &'a [u16],
+    whats: &'a [u16],
+) -> bool
+    requires { ⌜ Accepted (now types) (now offs) (now fun) ⌝ }
+    requires { ⌜ i < nitems (now fun) ⌝ }
+    requires { ⌜ ((n : ℕ) × Stated (now types) (local-types (now fun)) (state-in (now forms) (now whats) n)) ⌝ }
+    ensures { λ r. ⌜ (r ≡ true → uses-place (now (fun .entry)) i ≡ true) ⌝ }
+    ensures { λ r. ⌜ (r ≡ false → (n : ℕ) (E : Forest) (entry : Bool) → Holds (now (types .entry)) (local-types (now (fun .entry))) (value (state-in (now (forms .entry)) (now (whats .entry)) n)) E → uses (now (types .entry)) (now (fun .entry)) entry 1 i E ≡ done (E, [])) ⌝ }
+{
+    if !uses_place(fun, i) {
+        return false;
+    }
+    let root = root_before(fun, i);
+    let ops = ops_from(fun, root, i);
+    let args = args_from(fun, root, i);
+    !at_rest(types, offs, local_types(fun), forms, whats, ops, args)
+}
+
 // The items from..end, all at the entry's point or each at its own.
 pub fn pass_items(
     types: &[u32],
@@ -156,7 +185,7 @@ pub fn pass_items(
     let mut q = o;
     let mut i = from;
     while i < end {
-        if uses_place(fun, i) {
+        if moves(types, offs, fun, i, &t.forms, &t.whats) {
             let r = use_place(types, offs, fun, i, entry, t, recording, out, q);
             if r.refusal != 0 {
                 return r;

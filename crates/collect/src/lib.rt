@@ -16,6 +16,7 @@ pub mod states;
 use input::check_given;
 use input::check_locals;
 use state::nodes::State;
+use statements::ENTRY;
 use statements::Out;
 use statements::Point;
 use statements::finish;
@@ -32,7 +33,7 @@ pub enum Record {
 fn entry() -> Point
     ensures { λ r. ⌜ r ≡ begin ⌝ }
 {
-    Point { op: 14, arg: 0 }
+    Point { op: ENTRY, arg: 0 }
 }
 
 // Nothing is recorded yet.

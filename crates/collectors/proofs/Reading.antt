@@ -7,8 +7,8 @@ use lib.ListN.{length}
 use Rattle.model.specs.Types.{part, parts, kids}
 use Rattle.base.specs.Parts.{parts-none, parts-cons, length-parts}
 use Rattle.base.specs.Typed.{Typed, parts-inside}
-use Rattle.collectors.specs.declared.trees.Kids.{Kids}
-use Rattle.collectors.specs.Gets.{KidsOf}
+use Rattle.state.specs.declared.kids.Kids.{Kids}
+use Rattle.state.specs.Kids.{KidsOf}
 
 module _ (Γ : List ℕ) where
   -- no part

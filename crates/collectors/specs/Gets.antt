@@ -5,23 +5,15 @@ use mathlib.Core.List.{List}
 use Prim.Native.Nat.{ℕ, _+_, _*_, _≤_, _<_}
 use lib.ListN.{length, getD}
 use Rattle.model.specs.Answer.{Answer, refused, done}
-use Rattle.model.specs.Types.{parts, kids}
 use Rattle.model.specs.Tree.{Tree, Forest, size, sizes}
 use Rattle.model.specs.Typing.{depth, depths}
 use Rattle.model.specs.Collect.{unfolds, unfoldss, collect, collects, folds, foldss}
 use Rattle.model.specs.Record.{Entry}
 use Rattle.records.specs.Here.{Coded, CodedAll}
-use Rattle.state.specs.Found.{Fields}
 use Rattle.statements.specs.declared.Out.{Out}
 use Rattle.statements.specs.Kept.{Puts}
-use Rattle.collectors.specs.declared.trees.Kids.{Kids}
 use Rattle.collectors.specs.declared.trees.Got.{Got}
 use Rattle.collectors.specs.Trail.{lines, lines-of}
-
--- the children of a node of type t that is open at variant v, as parts
-pub record KidsOf (Γ : List ℕ) (t v : ℕ) (r : Kids) : Type 0 where
-  pub fields : Fields Γ (r .owner) (r .first) (r .count)
-  pub all : parts Γ (r .owner) (r .first) (r .count) ≡ kids Γ t v
 
 -- r tells whether the n words from i on are zeros
 pub record Zeros (fs : List ℕ) (i n : ℕ) (r : Bool) : Type 0 where

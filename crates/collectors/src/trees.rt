@@ -4,14 +4,14 @@ ghost use mathlib.Core.Bool.{true, false};
 ghost use Prim.Native.Nat.{_+_, _<_, _≤_};
 ghost use lib.ListN.{length};
 ghost use Rattle.model.specs.Types.{ntypes, parts};
-ghost use Rattle.model.specs.Typing.{Openable};
 ghost use Rattle.type_record.specs.Sizes.{Ready};
 ghost use Rattle.state.specs.Found.{Fields};
 ghost use Rattle.statements.specs.Kept.{Counted};
 ghost use Rattle.collectors.specs.Trail.{trail, Long, Keeps, way};
-ghost use Rattle.collectors.specs.Gets.{KidsOf, read-to, Zeros, Stands, StandAll, Small, Opening, OpeningAll, Leading, LeadingAll, Owing, OwingAll};
+ghost use Rattle.collectors.specs.Gets.{read-to, Zeros, Stands, StandAll, Small, Opening, OpeningAll, Leading, LeadingAll, Owing, OwingAll};
 use crate::path::hop;
 use crate::path::set_item;
+use state::kids::kids_of;
 use state::nodes::node_end;
 use state::nodes::wide16;
 use statements::FOLD;
@@ -19,10 +19,7 @@ use statements::Out;
 use statements::Point;
 use statements::UNFOLD;
 use statements::record;
-use type_record::record::count_of;
-use type_record::record::first_of;
 use type_record::record::kind_of;
-use type_record::record::owner_of;
 use type_record::record::part_at;
 
 // Just past the trees read, and what is recorded; a refusal, or 0.
@@ -54,30 +51,6 @@ fn refuse(n: u32, out: Out) -> Got
         second: 0,
         out,
         refusal: n,
-    }
-}
-
-// The children of an open node of type t at variant w: `count` parts of `owner` from part `first` on.
-pub struct Kids {
-    pub owner: usize,
-    pub first: usize,
-    pub count: usize,
-}
-
-fn kids_of(types: &[u32], offs: &[u32], t: usize, w: u16) -> Kids
-    requires { ⌜ Ready (now types) (now offs) ⌝ }
-    requires { ⌜ t < ntypes (now types) ⌝ }
-    requires { ⌜ Openable (now types) t w ⌝ }
-    ensures { λ r. ⌜ KidsOf (now (types .entry)) t w r ⌝ }
-{
-    let v = wide16(w);
-    let owner = owner_of(types, offs, t, v);
-    let first = first_of(types, t);
-    let count = count_of(types, owner) - first;
-    Kids {
-        owner,
-        first,
-        count,
     }
 }
 

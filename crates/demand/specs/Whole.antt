@@ -4,9 +4,8 @@ use mathlib.Core.Path.{_≡_, refl, _∙_, ap}
 use mathlib.Core.Bool.{true}
 use mathlib.Core.List.{List}
 use mathlib.Core.Option.{some}
-use Prim.Native.Nat.{ℕ, _+_, _*_, _≤_, _<_}
+use Prim.Native.Nat.{ℕ, _*_, _≤_, _<_}
 use lib.Dec.{leb}
-use lib.ListN.{length}
 use Rattle.model.specs.Answer.{Answer, refused, done}
 use Rattle.model.specs.Types.{types-ok}
 use Rattle.model.specs.Tree.{Forest, leaves}

@@ -4,7 +4,7 @@ use mathlib.Core.Bool.{true}
 use mathlib.Core.List.{List, [], _∷_, map}
 use Prim.Native.Nat.{ℕ, zero, suc, _<_}
 use lib.ListN.{length}
-use Rattle.model.specs.Answer.{Answer, refused, done, _>>=_}
+use Rattle.model.specs.Answer.{Answer, done, _>>=_}
 use Rattle.model.specs.Tree.{Tree, leaf, node, Forest, nil, more}
 use Rattle.model.specs.Typing.{Fits}
 use Rattle.model.specs.Place.{Elem, deref, field, downcast, index, Place, Spot, Statement, Fold, At, usable}

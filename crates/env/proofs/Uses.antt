@@ -157,11 +157,16 @@ module _ {Γ ops args : List ℕ} {s : State} {w : Walk} (h : Typed Γ) (d : Sit
           projects-done fold-done refl (used-holds ok fold-done (subst (Encoded r) (sym folded-codes)
           (c (used-stands .frame .before) (used-stands .frame .behind) reached-tree (d .site .passing .midway .here) used-encoded (used-stands .place))))
 
-    -- nothing
-    pub nothing-projects : getD (s .forms) (w .node) 0 ≡ 0 → Projects Γ (d .locals) s (projection Γ (d .spot) (d .state)) (record { answer = Nothing; state = s })
-    unfolding recorded-as
-    nothing-projects z =
-        let e : projection Γ (d .spot) (d .state) ≡ fitting Γ (d .state) >>= with-these [] =
-        projection-nothing (d .holds .trees .fits) (d .spot) (d .known) (used-stands .unchanged)
-        (ap unfolded (used-stands .reaches ∙ coded-folded (h .known) (d .site .passing .midway .here) z)) (used-stands .leads done ∙ ap done (used-stands .whole)) in
-        projects-done {w = (d .state, [])} (e ∙ rw (fitting-fits Γ (d .state) (holds-few (d .holds)))) refl (d .holds)
+    module _ (z : getD (s .forms) (w .node) 0 ≡ 0) where
+      -- the state stays as it is
+      pub nothing-done : projection Γ (d .spot) (d .state) ≡ done (d .state, [])
+      nothing-done =
+          let e : projection Γ (d .spot) (d .state) ≡ fitting Γ (d .state) >>= with-these [] =
+          projection-nothing (d .holds .trees .fits) (d .spot) (d .known) (used-stands .unchanged)
+          (ap unfolded (used-stands .reaches ∙ coded-folded (h .known) (d .site .passing .midway .here) z)) (used-stands .leads done ∙ ap done (used-stands .whole)) in
+          e ∙ rw (fitting-fits Γ (d .state) (holds-few (d .holds)))
+
+      -- nothing
+      pub nothing-projects : Projects Γ (d .locals) s (projection Γ (d .spot) (d .state)) (record { answer = Nothing; state = s })
+      unfolding recorded-as
+      nothing-projects = projects-done {w = (d .state, [])} nothing-done refl (d .holds)

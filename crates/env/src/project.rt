@@ -1,9 +1,11 @@
 // `Env::projection`, `Env::downcast`, and a fold or unfold carried out, on states that pass.
 ghost use mathlib.Core.Path.{_≡_};
 ghost use mathlib.Core.Bool.{true};
+ghost use mathlib.Core.List.{[]};
 ghost use mathlib.Core.Option.{some};
-ghost use Prim.Native.Nat.{_<_};
+ghost use Prim.Native.Nat.{ℕ, _<_};
 ghost use lib.ListN.{length, getD};
+ghost use Rattle.model.specs.Answer.{done};
 ghost use Rattle.model.specs.Types.{ntypes};
 ghost use Rattle.model.specs.Tree.{Tree, Forest, sizes};
 ghost use Rattle.model.specs.State.{locals-ok};
@@ -18,7 +20,7 @@ ghost use Rattle.state.specs.Value.{value};
 ghost use Rattle.walk.specs.Way.{acts};
 ghost use Rattle.walk.specs.Fresh.{distance};
 ghost use Rattle.walk.specs.Site.{Walks};
-ghost use Rattle.env.specs.Given.{Given, Sited};
+ghost use Rattle.env.specs.Given.{state-in, Given, Sited};
 ghost use Rattle.env.specs.Answers.{Projects, last-step, carrying, Moves, left, enum-of};
 use state::nodes::State;
 use state::nodes::local_at;
@@ -26,6 +28,7 @@ use type_record::record::kind_of;
 use type_record::record::wide;
 use walk::along::Walk;
 use walk::along::Walked;
+use walk::along::refusal;
 use walk::along::walk_along;
 use walk::apply::fold_at;
 use walk::apply::opened;
@@ -65,32 +68,24 @@ pub enum Enum {
     Refused(u32),
 }
 
-// The walk of the place in its local's tree.
-fn walk_in(
+// `Env::ensure_unfolded`: the walk of the place in its local's tree. What has to be opened on the way is found here; `opened` opens it.
+fn ensure_unfolded<'a>(
     types: &[u32],
     offs: &[u32],
     locals: &[u32],
-    s: State,
+    forms: &'a [u16],
+    whats: &'a [u16],
     ops: &[u32],
     args: &[u32],
 ) -> Walked
     requires { ⌜ Ready (now types) (now offs) ⌝ }
     requires { ⌜ locals-ok (now types) (now locals) ≡ true ⌝ }
-    requires { ⌜ Given (now types) (now locals) s (now ops) (now args) (spot-ok 64 (length (now locals))) ⌝ }
-    ensures { λ r. ⌜ ((E : Forest) (q : Spot) → Holds (now (types .entry)) (now (locals .entry)) (value s) E → spot-of (now (ops .entry)) (now (args .entry)) ≡ some q → Walks (now (types .entry)) (s .forms) (s .whats) (now (ops .entry)) (now (args .entry)) (sizes (firsts (q .local) E)) (q .place) (pick (q .local) E) r) ⌝ }
+    requires { ⌜ ((n : ℕ) × Given (now types) (now locals) (state-in (now forms) (now whats) n) (now ops) (now args) (spot-ok 64 (length (now locals)))) ⌝ }
+    ensures { λ r. ⌜ ((n : ℕ) (E : Forest) (q : Spot) → Holds (now (types .entry)) (now (locals .entry)) (value (state-in (now (forms .entry)) (now (whats .entry)) n)) E → spot-of (now (ops .entry)) (now (args .entry)) ≡ some q → Walks (now (types .entry)) (now (forms .entry)) (now (whats .entry)) (now (ops .entry)) (now (args .entry)) (sizes (firsts (q .local) E)) (q .place) (pick (q .local) E) r) ⌝ }
 {
     let l = wide(args[0]);
-    let i = local_at(types, offs, &s.forms, &s.whats, locals, l);
-    walk_along(
-        types,
-        offs,
-        &s.forms,
-        &s.whats,
-        ops,
-        args,
-        i,
-        wide(locals[l]),
-    )
+    let i = local_at(types, offs, forms, whats, locals, l);
+    walk_along(types, offs, forms, whats, ops, args, i, wide(locals[l]))
 }
 
 // The type of the place, which must be an enum: "a match first walks its place, for its type alone".
@@ -107,18 +102,16 @@ pub fn enum_at(
     requires { ⌜ Given (now types) (now locals) s (now ops) (now args) (used-ok (length (now locals))) ⌝ }
     ensures { λ r. ⌜ ((E : Forest) (q : Spot) → Holds (now (types .entry)) (now (locals .entry)) (value s) E → spot-of (now (ops .entry)) (now (args .entry)) ≡ some q → r ≡ enum-of (enum-at (now (types .entry)) q E)) ⌝ }
 {
-    let a = walk_in(types, offs, locals, s, ops, args);
-    match a {
-        Walked::Refused(n) => Enum::Refused(n),
-        Walked::To(w) => {
-            let f = w.fresh;
-            let t = f.typ;
-            if kind_of(types, t) == 7 {
-                Enum::Of(t)
-            } else {
-                Enum::Refused(5)
-            }
-        }
+    let a = ensure_unfolded(types, offs, locals, &s.forms, &s.whats, ops, args);
+    let Walked::To(w) = a else {
+        return Enum::Refused(refusal(a));
+    };
+    let f = w.fresh;
+    let t = f.typ;
+    if kind_of(types, t) == 7 {
+        Enum::Of(t)
+    } else {
+        Enum::Refused(5)
     }
 }
 
@@ -156,6 +149,32 @@ fn used_at(types: &[u32], offs: &[u32], s: State, w: Walk, ops: &[u32], args: &[
     }
 }
 
+// Does the use of the place change nothing? Its walk then ends at a folded node that stands there.
+pub fn at_rest<'a>(
+    types: &[u32],
+    offs: &[u32],
+    locals: &[u32],
+    forms: &'a [u16],
+    whats: &'a [u16],
+    ops: &[u32],
+    args: &[u32],
+) -> bool
+    requires { ⌜ Ready (now types) (now offs) ⌝ }
+    requires { ⌜ locals-ok (now types) (now locals) ≡ true ⌝ }
+    requires { ⌜ ((n : ℕ) × Given (now types) (now locals) (state-in (now forms) (now whats) n) (now ops) (now args) (used-ok (length (now locals)))) ⌝ }
+    ensures { λ r. ⌜ (r ≡ true → (n : ℕ) (E : Forest) (q : Spot) → Holds (now (types .entry)) (now (locals .entry)) (value (state-in (now (forms .entry)) (now (whats .entry)) n)) E → spot-of (now (ops .entry)) (now (args .entry)) ≡ some q → projection (now (types .entry)) q E ≡ done (E, [])) ⌝ }
+{
+    let a = ensure_unfolded(types, offs, locals, forms, whats, ops, args);
+    let Walked::To(w) = a else {
+        return false;
+    };
+    if w.passed < w.walked {
+        return false;
+    }
+    let i = w.node;
+    forms[i] == 0
+}
+
 // A place of a fold is used.
 fn used(types: &[u32], offs: &[u32], locals: &[u32], s: State, ops: &[u32], args: &[u32]) -> Usage
     requires { ⌜ Ready (now types) (now offs) ⌝ }
@@ -163,14 +182,14 @@ fn used(types: &[u32], offs: &[u32], locals: &[u32], s: State, ops: &[u32], args
     requires { ⌜ Given (now types) (now locals) s (now ops) (now args) (fold-ok (length (now locals))) ⌝ }
     ensures { λ r. ⌜ ((E : Forest) (q : Spot) → Holds (now (types .entry)) (now (locals .entry)) (value s) E → spot-of (now (ops .entry)) (now (args .entry)) ≡ some q → Projects (now (types .entry)) (now (locals .entry)) s (projection (now (types .entry)) q E) r) ⌝ }
 {
-    let a = walk_in(types, offs, locals, s, ops, args);
-    match a {
-        Walked::Refused(n) => Usage {
-            answer: Projected::Refused(n),
+    let a = ensure_unfolded(types, offs, locals, &s.forms, &s.whats, ops, args);
+    let Walked::To(w) = a else {
+        return Usage {
+            answer: Projected::Refused(refusal(a)),
             state: s,
-        },
-        Walked::To(w) => used_at(types, offs, s, w, ops, args),
-    }
+        };
+    };
+    used_at(types, offs, s, w, ops, args)
 }
 
 // The place is used: what is to be recorded, and the state after.
@@ -336,14 +355,14 @@ fn open_last(
     requires { ⌜ (op ≡ 0 → ⊥) ⌝ }
     ensures { λ r. ⌜ ((E : Forest) (q : Spot) → Holds (now (types .entry)) (now (locals .entry)) (value s) E → spot-of (now (ops .entry)) (now (args .entry)) ≡ some q → Moves (now (types .entry)) (now (locals .entry)) s (last-step (now (types .entry)) (elem-of op arg) q E) r) ⌝ }
 {
-    let a = walk_in(types, offs, locals, s, ops, args);
-    match a {
-        Walked::Refused(n) => Moved {
-            answer: Outcome::Refused(n),
+    let a = ensure_unfolded(types, offs, locals, &s.forms, &s.whats, ops, args);
+    let Walked::To(w) = a else {
+        return Moved {
+            answer: Outcome::Refused(refusal(a)),
             state: s,
-        },
-        Walked::To(w) => open_at(types, offs, s, w, ops, args, op, arg),
-    }
+        };
+    };
+    open_at(types, offs, s, w, ops, args, op, arg)
 }
 
 // A match arm's own unfolding: walk the place read, then downcast to the variant.

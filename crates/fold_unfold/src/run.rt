@@ -26,7 +26,7 @@ use statements::Out;
 use type_record::record::wide;
 use visit::block::Visit;
 use visit::block::basic_block;
-use visit::block::goto;
+use visit::block::begin;
 
 // The opening of a pass at the entry.
 fn open_pass(
@@ -69,7 +69,7 @@ fn open_pass(
     }
     let t = r.state;
     let q = r.out;
-    goto(
+    begin(
         types,
         offs,
         fun,
@@ -81,10 +81,6 @@ fn open_pass(
         whats,
         out,
         recording,
-        nblocks(fun),
-        0,
-        true,
-        0,
         t,
         q,
     )

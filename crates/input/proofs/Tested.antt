@@ -1,5 +1,5 @@
 -- What the tests of input say to the calls that model defines: each goes on, or is refused. Assumes nothing.
-use mathlib.Core.Path.{_≡_, _∙_}
+use mathlib.Core.Path.{_≡_}
 use mathlib.Core.Bool.{true, false, cond}
 use mathlib.Core.List.{List}
 use mathlib.Core.Option.{some}

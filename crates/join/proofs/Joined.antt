@@ -1,12 +1,12 @@
 -- The join of two states, as it is written and told: with zeros behind it, or without room. Assumes nothing.
-use mathlib.Core.Path.{_≡_, refl, sym, _∙_, ap, ap₂}
-use mathlib.Core.Bool.{Bool, true, false}
+use mathlib.Core.Path.{_≡_, sym, _∙_, ap₂}
+use mathlib.Core.Bool.{true, false}
 use mathlib.Core.List.{List, _++_}
 use Prim.Native.Nat.{ℕ, _+_, _-_, _≤_}
 use native.Mathlib.Omega.{arith}
 use lib.ListN.{length, take, replicate}
 use borrow.Author.Tests.{le-leb, lt-leb}
-use Rattle.model.specs.Tree.{Forest, sizes, joins, flagss}
+use Rattle.model.specs.Tree.{Forest, sizes, joins}
 use Rattle.model.specs.State.{padded, encode, codess}
 use Rattle.records.specs.Here.{firsts, seconds, CodedAll}
 use Rattle.records.specs.Codes.{forest-forms, forest-whats}

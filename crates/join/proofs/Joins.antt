@@ -1,6 +1,6 @@
 -- The join of trees in the arrays, step by step. Assumes nothing.
-use mathlib.Core.Path.{_≡_, refl, sym, _∙_, ap}
-use mathlib.Core.Bool.{Bool, true, false, cond, not, _||_}
+use mathlib.Core.Path.{_≡_, _∙_}
+use mathlib.Core.Bool.{Bool, true, false, _||_}
 use mathlib.Core.List.{List, [], _∷_}
 use Prim.Native.Nat.{ℕ, _+_, _≤_, _<_}
 use native.Mathlib.Omega.{arith}
@@ -8,7 +8,7 @@ use lib.Dec.{eqb}
 use lib.ListN.{length, getD, set}
 use borrow.Author.Tests.{eq-eqb, ne-eqb}
 use Rattle.model.specs.Types.{kind, kids, sticky, below}
-use Rattle.model.specs.Tree.{Tree, leaf, node, Forest, size, sizes, settle, meet, meets, join, flags}
+use Rattle.model.specs.Tree.{Tree, size, sizes, meet, join, flags}
 use Rattle.model.specs.Typing.{Fit, fit-leaf, fit-node}
 use Rattle.records.specs.Here.{Coded, Heres}
 use Rattle.base.specs.Tests.{split}

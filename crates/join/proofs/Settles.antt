@@ -1,15 +1,15 @@
 -- What is left of trees in the arrays where they meet folded ones, step by step. Assumes nothing.
-use mathlib.Core.Path.{_≡_, refl, sym, _∙_, ap}
+use mathlib.Core.Path.{_≡_, refl, _∙_}
 use mathlib.Core.Bool.{Bool, true, false, not, _&&_, _||_}
 use mathlib.Core.List.{List, [], _∷_}
 use Prim.Native.Nat.{ℕ, _+_, _≤_, _<_}
 use native.Mathlib.Omega.{arith}
 use lib.Dec.{eqb}
 use lib.ListN.{length, getD, set}
-use borrow.Author.Tests.{eqb-true, eqb-false, not-true, eq-eqb, ne-eqb}
+use borrow.Author.Tests.{eqb-true, eqb-false, not-true}
 use Rattle.model.specs.Types.{kind, kids, sticky, below}
-use Rattle.model.specs.Tree.{Tree, leaf, node, Forest, nil, more, size, sizes, settle, settles, meet, meets}
-use Rattle.records.specs.Here.{Coded, CodedAll, Heres}
+use Rattle.model.specs.Tree.{Tree, size, sizes, settle, meet}
+use Rattle.records.specs.Here.{Coded, Heres}
 use Rattle.base.specs.Tests.{split, and-left, and-right}
 use Rattle.base.specs.Kinds.{Known}
 use Rattle.records.specs.Codes.{size-pos}

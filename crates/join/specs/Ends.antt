@@ -4,17 +4,9 @@ use mathlib.Core.Bool.{Bool, true, false}
 use mathlib.Core.List.{List}
 use Prim.Native.Nat.{ℕ, _+_, _≤_, _<_}
 use lib.ListN.{length}
-use Rattle.model.specs.Types.{parts, kids}
 use Rattle.model.specs.Tree.{Tree, Forest, size, sizes, settle, settles, join, joins, meet, meets, flags, flagss}
 use Rattle.records.specs.Here.{Coded, CodedAll, Written, WrittenAll}
-use Rattle.state.specs.Found.{Fields}
-use Rattle.join.specs.declared.trees.Kids.{Kids}
 use Rattle.join.specs.declared.trees.Ends.{Ends}
-
--- the children of a node of type t that is open at variant v, as parts
-pub record KidsOf (Γ : List ℕ) (t v : ℕ) (r : Kids) : Type 0 where
-  pub fields : Fields Γ (r .owner) (r .first) (r .count)
-  pub all : parts Γ (r .owner) (r .first) (r .count) ≡ kids Γ t v
 
 -- the two arrays that are written have 512 entries, and k of them are written
 pub record Room (of ow : List ℕ) (k : ℕ) : Type 0 where

@@ -50,15 +50,15 @@ pub fn join(types: &[u32], locals: &[u32], s: State, e: State) -> Merged
     let mut forms = [0u16; 512];
     let mut whats = [0u16; 512];
     let j = join_into(types, &offs, locals, s, e, &mut forms, &mut whats);
-    match j {
-        Joined::Full => refused(9, s),
-        Joined::To { nodes, changed } => Merged {
-            answer: Flag::Of(changed),
-            state: State {
-                forms,
-                whats,
-                nodes,
-            },
+    let Joined::To { nodes, changed } = j else {
+        return refused(9, s);
+    };
+    Merged {
+        answer: Flag::Of(changed),
+        state: State {
+            forms,
+            whats,
+            nodes,
         },
     }
 }

@@ -6,24 +6,20 @@ ghost use lib.ListN.{length};
 ghost use lib.Dec.{eqb};
 ghost use Rattle.model.specs.Types.{ntypes, parts, sticky};
 ghost use Rattle.model.specs.Tree.{Forest};
-ghost use Rattle.model.specs.Typing.{Openable};
 ghost use Rattle.model.specs.State.{locals-ok};
 ghost use Rattle.records.specs.Here.{Here, Heres, Holds};
 ghost use Rattle.type_record.specs.Sizes.{Ready};
 ghost use Rattle.state.specs.Value.{value};
 ghost use Rattle.state.specs.Found.{Fields};
 ghost use Rattle.state.specs.Spliced.{fronted};
-ghost use Rattle.join.specs.Ends.{KidsOf, ended, Room, Settled, SettledAll, Met, MetAll};
+ghost use Rattle.join.specs.Ends.{ended, Room, Settled, SettledAll, Met, MetAll};
 ghost use Rattle.join.specs.Answers.{JoinedIn};
+use state::kids::kids_of;
 use state::nodes::State;
 use state::nodes::node_end;
-use state::nodes::wide16;
 use type_record::kinds::below;
 use type_record::kinds::sticky;
-use type_record::record::count_of;
-use type_record::record::first_of;
 use type_record::record::kind_of;
-use type_record::record::owner_of;
 use type_record::record::part_at;
 use type_record::record::wide;
 
@@ -77,30 +73,6 @@ fn stays(f: u16, m: bool, k: u32) -> bool
         return false;
     }
     sticky(m, k)
-}
-
-// The children of an open node of type t at variant w: `count` parts of `owner` from part `first` on.
-pub struct Kids {
-    pub owner: usize,
-    pub first: usize,
-    pub count: usize,
-}
-
-fn kids_of(types: &[u32], offs: &[u32], t: usize, w: u16) -> Kids
-    requires { ⌜ Ready (now types) (now offs) ⌝ }
-    requires { ⌜ t < ntypes (now types) ⌝ }
-    requires { ⌜ Openable (now types) t w ⌝ }
-    ensures { λ r. ⌜ KidsOf (now (types .entry)) t w r ⌝ }
-{
-    let v = wide16(w);
-    let owner = owner_of(types, offs, t, v);
-    let first = first_of(types, t);
-    let count = count_of(types, owner) - first;
-    Kids {
-        owner,
-        first,
-        count,
-    }
 }
 
 // Joins the tree of type t at i with a folded one. changed: some node of it was folded.

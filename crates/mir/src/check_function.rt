@@ -1,7 +1,7 @@
 // Refusal 2: does a function record keep its layout?
 ghost use mathlib.Core.Path.{_≡_};
 ghost use mathlib.Core.Bool.{true};
-ghost use Prim.Native.Nat.{ℕ, _<_, _≤_};
+ghost use Prim.Native.Nat.{_<_, _≤_};
 ghost use Rattle.model.specs.Types.{types-ok};
 ghost use Rattle.model.specs.State.{locals-ok};
 ghost use Rattle.model.specs.Function.{nblocks, nitems, may-follow, after, arg-ok, function-sizes, starts-ok, ranks-ok, items-ok, function-ok};

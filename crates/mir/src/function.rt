@@ -1,6 +1,6 @@
 // Reading a function record: L, A, B, I; local types[L]; start[B], rank[B]; op[I], arg[I].
 ghost use mathlib.Core.Path.{_≡_};
-ghost use Prim.Native.Nat.{ℕ, _+_, _<_, _≤_};
+ghost use Prim.Native.Nat.{_+_, _<_, _≤_};
 ghost use Rattle.model.specs.Function.{nlocals, nargs, nblocks, nitems, local-types, start, rank, op, arg, stop};
 ghost use Rattle.mir.specs.Sizes.{Laid};
 ghost use Rattle.mir.specs.Parts.{ops-start, ops-part, args-part};

@@ -2,3 +2,4 @@
 pub mod Value
 pub mod Found
 pub mod Spliced
+pub mod Kids

@@ -16,8 +16,6 @@ use type_record::record::owner_of;
 use type_record::record::part_at;
 use type_record::record::wide;
 
-pub const MOST_NODES: usize = 512;
-
 // A state: form and variant of each node, in preorder, local after local. Every entry past the node count is zero.
 pub struct State {
     pub forms: [u16; 512],

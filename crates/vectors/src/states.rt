@@ -1,6 +1,5 @@
 // The calls on one state or two: 8 join, 9 collect_fold_unfolds, 10 collect_unfolds, 11 collect_folds_at_ret.
 ghost use Prim.Native.Nat.{_≤_};
-ghost use lib.ListN.{length};
 use crate::lists::end_of;
 use crate::lists::list;
 use crate::lists::number;

@@ -62,16 +62,14 @@ pub fn arrive(
     }
     let old = load_state(forms, whats, wide(k) - 1);
     let j = join_into(types, offs, local_types(fun), old, s, forms, whats);
-    match j {
-        Joined::Full => 9,
-        Joined::To { nodes, changed } => {
-            if changed {
-                kept[c] = small(nodes + 1);
-                insert(waits, c);
-            }
-            0
-        }
+    let Joined::To { nodes, changed } = j else {
+        return 9;
+    };
+    if changed {
+        kept[c] = small(nodes + 1);
+        insert(waits, c);
     }
+    0
 }
 
 // `Elaboration::goto_join_point`: the statements from the state to the stored one are recorded at the item i, or at the entry.

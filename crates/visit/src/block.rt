@@ -1,6 +1,6 @@
 // `basic_block` and `goto`. A target that is no join point is entered at once.
 ghost use mathlib.Core.Path.{_≡_};
-ghost use mathlib.Core.Bool.{true};
+ghost use mathlib.Core.Bool.{true, false};
 ghost use Prim.Native.Nat.{suc, _<_};
 ghost use Rattle.model.specs.Tree.{Forest};
 ghost use Rattle.model.specs.Collect.{folds-at-ret};
@@ -27,6 +27,7 @@ use collect::states::collect_folds_at_ret;
 use mir::function::arg_of;
 use mir::function::local_types;
 use mir::function::nargs;
+use mir::function::nblocks;
 use mir::function::op_of;
 use mir::function::start_of;
 use mir::function::stop_of;
@@ -135,8 +136,8 @@ fn returned(
     o
 }
 
-// A jump to the block c by the item i, or from the entry, with at most `left` blocks on the way.
-pub fn goto(
+// A jump to the block c by the item i, with at most `left` blocks on the way.
+fn goto(
     types: &[u32],
     offs: &[u32],
     fun: &[u32],
@@ -150,7 +151,6 @@ pub fn goto(
     recording: bool,
     left: usize,
     i: usize,
-    entry: bool,
     c: usize,
     s: State,
     o: Out,
@@ -160,7 +160,7 @@ pub fn goto(
     requires { ⌜ Ongoing (now types) (now fun) recording (arrays (now kept) (now visited) (now waits) (now forms) (now whats)) (now out) o ⌝ }
     requires { ⌜ (i < nitems (now fun)) × (c < nblocks (now fun)) ⌝ }
     requires { ⌜ Stated (now types) (local-types (now fun)) s ⌝ }
-    ensures { λ r. ⌜ ((m : Memory) (E : Forest) → Remembers (now (types .entry)) (now (fun .entry)) m (arrays (now (kept .entry)) (now (visited .entry)) (now (waits .entry)) (now (forms .entry)) (now (whats .entry))) → Spoken (now (fun .entry)) recording (m .lines) (now (out .entry)) o → Holds (now (types .entry)) (local-types (now (fun .entry))) (value s) E → Visits (now (types .entry)) (now (fun .entry)) recording (arrays (now (kept .entry)) (now (visited .entry)) (now (waits .entry)) (now (forms .entry)) (now (whats .entry))) (now (out .entry)) (jumps (now (types .entry)) (now (fun .entry)) recording left (exit (now (fun .entry)) entry i c E) m) (arrays (now (kept .exit)) (now (visited .entry)) (now (waits .exit)) (now (forms .exit)) (now (whats .exit))) (now (out .exit)) r) ⌝ }
+    ensures { λ r. ⌜ ((m : Memory) (E : Forest) → Remembers (now (types .entry)) (now (fun .entry)) m (arrays (now (kept .entry)) (now (visited .entry)) (now (waits .entry)) (now (forms .entry)) (now (whats .entry))) → Spoken (now (fun .entry)) recording (m .lines) (now (out .entry)) o → Holds (now (types .entry)) (local-types (now (fun .entry))) (value s) E → Visits (now (types .entry)) (now (fun .entry)) recording (arrays (now (kept .entry)) (now (visited .entry)) (now (waits .entry)) (now (forms .entry)) (now (whats .entry))) (now (out .entry)) (jumps (now (types .entry)) (now (fun .entry)) recording left (exit (now (fun .entry)) false i c E) m) (arrays (now (kept .exit)) (now (visited .entry)) (now (waits .exit)) (now (forms .exit)) (now (whats .exit))) (now (out .exit)) r) ⌝ }
 {
     let p = wide(points[c]);
     if p != 0 {
@@ -177,7 +177,7 @@ pub fn goto(
             recording,
             p,
             i,
-            entry,
+            false,
             c,
             s,
             o,
@@ -314,7 +314,6 @@ fn leave(
                 recording,
                 left,
                 i,
-                false,
                 c,
                 u,
                 q,
@@ -331,4 +330,67 @@ fn leave(
         i += 1;
     }
     Visit::Over(q)
+}
+
+// The jump from the entry to the start block. Outside the cycle of calls, so that `meet` keeps a frame of its own (docs/DECISIONS.md, stack).
+pub fn begin(
+    types: &[u32],
+    offs: &[u32],
+    fun: &[u32],
+    points: &[u32],
+    kept: &mut [u32],
+    visited: &[u32],
+    waits: &mut [u32],
+    forms: &mut [u16],
+    whats: &mut [u16],
+    out: &mut [u32],
+    recording: bool,
+    s: State,
+    o: Out,
+) -> Visit
+    requires { ⌜ Accepted (now types) (now offs) (now fun) ⌝ }
+    requires { ⌜ Shared (now fun) (now points) ⌝ }
+    requires { ⌜ Ongoing (now types) (now fun) recording (arrays (now kept) (now visited) (now waits) (now forms) (now whats)) (now out) o ⌝ }
+    requires { ⌜ (0 < nitems (now fun)) × (0 < nblocks (now fun)) ⌝ }
+    requires { ⌜ Stated (now types) (local-types (now fun)) s ⌝ }
+    ensures { λ r. ⌜ ((m : Memory) (E : Forest) → Remembers (now (types .entry)) (now (fun .entry)) m (arrays (now (kept .entry)) (now (visited .entry)) (now (waits .entry)) (now (forms .entry)) (now (whats .entry))) → Spoken (now (fun .entry)) recording (m .lines) (now (out .entry)) o → Holds (now (types .entry)) (local-types (now (fun .entry))) (value s) E → Visits (now (types .entry)) (now (fun .entry)) recording (arrays (now (kept .entry)) (now (visited .entry)) (now (waits .entry)) (now (forms .entry)) (now (whats .entry))) (now (out .entry)) (jumps (now (types .entry)) (now (fun .entry)) recording (nblocks (now (fun .entry))) (exit (now (fun .entry)) true 0 0 E) m) (arrays (now (kept .exit)) (now (visited .entry)) (now (waits .exit)) (now (forms .exit)) (now (whats .exit))) (now (out .exit)) r) ⌝ }
+{
+    let p = wide(points[0]);
+    if p != 0 {
+        return meet(
+            types,
+            offs,
+            fun,
+            kept,
+            visited,
+            waits,
+            forms,
+            whats,
+            out,
+            recording,
+            p,
+            0,
+            true,
+            0,
+            s,
+            o,
+        );
+    }
+    basic_block(
+        types,
+        offs,
+        fun,
+        points,
+        kept,
+        visited,
+        waits,
+        forms,
+        whats,
+        out,
+        recording,
+        nblocks(fun) - 1,
+        0,
+        s,
+        o,
+    )
 }

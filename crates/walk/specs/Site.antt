@@ -76,3 +76,8 @@ module _ (Γ fs ws ops args : List ℕ) where
   abbrev pub Walks : ℕ → Place → Tree → Walked → Type 0
   Walks i p x (Reached w) = Site i p x w
   Walks i p x (Denied r) = (act : Tree → Answer Tree) → walk Γ act p x ≡ refused r
+
+-- the refusal of a walk that has one
+abbrev pub refusal-of : Walked → ℕ
+refusal-of (Reached w) = 0
+refusal-of (Denied r) = r

@@ -14,7 +14,7 @@ ghost use Rattle.records.specs.Here.{Coded, Here};
 ghost use Rattle.type_record.specs.Sizes.{Ready};
 ghost use Rattle.walk.specs.Way.{route};
 ghost use Rattle.walk.specs.Fresh.{folded, sprout};
-ghost use Rattle.walk.specs.Site.{Short, Stopped, Passes, Walks};
+ghost use Rattle.walk.specs.Site.{Short, Stopped, Passes, Walks, refusal-of};
 use crate::step::Fresh;
 use crate::step::INDEX;
 use crate::step::Opened;
@@ -203,7 +203,9 @@ pub fn walk_along<'a>(
 }
 
 // The refusal of a walk that has one.
-pub fn refusal(w: Walked) -> u32 {
+pub fn refusal(w: Walked) -> u32
+    ensures { λ r. ⌜ r ≡ refusal-of w ⌝ }
+{
     match w {
         Walked::To(_) => 0,
         Walked::Refused(r) => r,

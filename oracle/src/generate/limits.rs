@@ -103,6 +103,26 @@ fn record_sizes(cases: &mut Vec<Named>) {
         cases.push((format!("blocks {n} in a chain"), whole(opaque().words(), &chain(n, 1))));
         cases.push((format!("join points {n} less one"), whole(opaque().words(), &chain(n, 2))));
     }
+    for n in round(MAX_NODES) {
+        cases.push((format!("blocks 256 in a chain with {n} nodes"), full_chain(256, n)));
+    }
+}
+
+/// Such a chain whose first block opens all that brings the state to so many nodes.
+fn full_chain(blocks: usize, nodes: usize) -> Case {
+    let mut types = opaque();
+    types.push(TyKind::Struct, vec![0; 2]);
+    let opened = (nodes - 2) / 3;
+    let mut draft = chain(blocks, 1);
+    draft.local_types = vec![0; nodes - 3 * opened];
+    draft.local_types.extend(vec![1; opened]);
+    let first = nodes - 3 * opened;
+    let mut items = vec![];
+    for local in first..first + opened {
+        push_use(&mut items, &Place::new(local, vec![PlaceElem::Field(0)]));
+    }
+    draft.blocks[0].splice(0..0, items);
+    whole(types.words(), &draft)
 }
 
 /// Blocks that lead each to the next by so many target items.

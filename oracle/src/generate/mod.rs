@@ -32,6 +32,8 @@ pub enum Kind {
     States,
     /// Functions of a few random items.
     Items,
+    /// Any words as records, and good records with a word changed.
+    Words,
 }
 
 impl Kind {
@@ -39,6 +41,7 @@ impl Kind {
         match name {
             "states" => return Some(Kind::States),
             "items" => return Some(Kind::Items),
+            "words" => return Some(Kind::Words),
             _ => {}
         }
         let calls = [Call::Types, Call::Function, Call::Whole, Call::Ghosts];
@@ -69,6 +72,7 @@ fn any(rng: &mut Rng, kind: Kind, size: Size) -> Case {
             states::random_case(rng, call, size)
         }
         Kind::Items => whole::items_case(rng),
+        Kind::Words => whole::words_case(rng, size),
         Kind::Call(Call::Types) => whole::types_case(rng, size),
         Kind::Call(Call::Function) => whole::function_case(rng, size),
         Kind::Call(Call::Ghosts) => whole::ghosts_case(rng, size),

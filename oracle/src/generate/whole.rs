@@ -152,6 +152,28 @@ pub fn function_case(rng: &mut Rng, size: Size) -> Case {
     Case { call: Call::Function, room: vec![], ..attempt(rng, size, want) }
 }
 
+/// Any words as the records, the second or both; or good records of which a word is changed.
+pub fn words_case(rng: &mut Rng, size: Size) -> Case {
+    let (types, draft) = random_pair(rng, size, None);
+    let mut case = Case::whole(types.words(), draft.words(), [4096, 4096, 1024]);
+    match rng.below(4) {
+        0 => {
+            case.types = random_words(rng);
+            case.function = random_words(rng);
+        }
+        1 => case.function = random_words(rng),
+        2 => damage_words(rng, &mut case.types),
+        _ => damage_words(rng, &mut case.function),
+    }
+    case
+}
+
+/// From no word up, small ones more often.
+fn random_words(rng: &mut Rng) -> Vec<u32> {
+    let most = rng.pick(&[2, 4, 14, 257, usize::MAX]);
+    (0..rng.below(40)).map(|_| rng.below(most) as u32).collect()
+}
+
 /// A few blocks of random items over one opaque local: in order, or nearly so.
 pub fn items_case(rng: &mut Rng) -> Case {
     let mut draft = Draft::new(vec![0], 0);

@@ -75,14 +75,14 @@ join-into-requires c κs =
     let second : (D : Forest) × Holds (a .types .now) (a .locals .now) (value (a .e)) D = (E .0, E .2) in
     (K .ready (c .before .before .before .before .before .before .before .before .before .if1 .left), (K .typed (c .before .before .before .before .before .before .before .before .before .if1 .left), (search, (search, record { forms = refl; whats = refl; low = omega arith }))))
 
+enum-known-j : tie.Need-enum-known-j
+enum-known-j c = search needs
+
 enum-told : tie.Need-enum-told
 enum-told c = search needs
 
 refused-requires-4 : tie.Need-refused-requires-4
 refused-requires-4 c κs = search needs
-
-enum-known-j : tie.Need-enum-known-j
-enum-known-j c = search needs
 
 returns-4 : tie.Need-returns-4
 returns-4 c =
@@ -123,8 +123,8 @@ join-spec =
     slice-aggregate-join-into-2
     slice-aggregate-join-into-3
     join-into-requires
+    enum-known-j
     enum-told
     refused-requires-4
-    enum-known-j
     returns-4
     returns-5)

@@ -1,8 +1,6 @@
 -- `stream::print_words` meets its contract. Assumes nothing.
 use borrow.Author.Needs.{needs}
-use mathlib.Core.Path.{_≡_}
-use Prim.Native.Nat.{_-_, _≤_, _<_}
-use native.Mathlib.Omega.{arith}
+use Prim.Native.Nat.{_-_, _≤_}
 use lib.ListN.{length}
 use Rattle.stream.proofs.print_words.Statement.{statement}
 use Rattle.stream.proofs.print_words.Tie as tie

@@ -1,16 +1,15 @@
 -- `body::items::pass_items` meets its contract: before item i the state and what is recorded are those of the items from..i.
 -- Assumes nothing.
 use borrow.Author.Needs.{needs}
-use mathlib.Core.Path.{_≡_, refl, sym, _∙_, subst}
-use mathlib.Core.Bool.{Bool, false}
-use mathlib.Core.List.{List}
+use mathlib.Core.Path.{_≡_, refl, _∙_, subst}
+use mathlib.Core.Bool.{Bool}
+use mathlib.Core.List.{List, []}
 use mathlib.Core.Logic.{⊎-elim}
-use Prim.Native.Nat.{ℕ, suc, _+_, _-_, _≤_}
+use Prim.Native.Nat.{ℕ, _+_, _-_, _≤_}
 use native.Mathlib.Omega.{arith}
-use Rattle.model.specs.Answer.{Answer}
+use Rattle.model.specs.Answer.{Answer, done}
 use Rattle.model.specs.Tree.{Forest}
 use Rattle.model.specs.Function.{local-types}
-use Rattle.model.specs.Block.{uses-place}
 use Rattle.records.specs.Here.{Holds}
 use Rattle.state.specs.Value.{value}
 use Rattle.state.specs.declared.nodes.State.{State}
@@ -18,7 +17,7 @@ use Rattle.statements.specs.Kept.{Counted}
 use Rattle.statements.specs.declared.Out.{Out}
 use Rattle.body.specs.Uses.{uses, Passes}
 use Rattle.body.specs.declared.items.Passed.{Passed}
-use Rattle.body.proofs.Runs.{Run, uses-none, uses-fail, uses-append}
+use Rattle.body.proofs.Runs.{Run, uses-none, uses-append}
 use Rattle.body.proofs.Passing.{tells-none, done-passes, passes-then, passes-stop, passes-stated, passes-counted}
 use Rattle.body.proofs.items.pass_items.Statement.{statement}
 use Rattle.body.proofs.items.pass_items.Tie as tie
@@ -33,17 +32,12 @@ passes-fine : {Γ fn : List ℕ} {recording : Bool} {out out₁ out₂ : List �
 passes-fine {Γ} {fn} {recording} {out} {out₁} {o = o} {a = a} {r} p d e z P = rw (p, d, e)
     (subst (λ (n : ℕ). Passes Γ fn recording out o out₁ a (record { state = r .state; out = r .out; refusal = n })) z P)
 
+-- a run that leaves the state as it is, and records nothing
+run-still : (Γ fn : List ℕ) (recording : Bool) {s : State} {out : List ℕ} {o : Out} {a : Answer Run} (E : Forest) → a ≡ done (E, []) → Counted out o → Holds Γ (local-types fn) (value s) E
+    → Passes Γ fn recording out o out a (fine s o)
+run-still Γ fn recording E e C h = done-passes e (record { fine = refl; state = h; lines = tells-none fn recording C })
+
 module _ (Γ fn : List ℕ) (entry recording : Bool) where
-  -- no item
-  run-none : {s : State} {out : List ℕ} {o : Out} {E : Forest} (i : ℕ) → Counted out o → Holds Γ (local-types fn) (value s) E
-      → Passes Γ fn recording out o out (uses Γ fn entry 0 i E) (fine s o)
-  run-none {E = E} i C h = done-passes (uses-none Γ fn entry i E) (record { fine = refl; state = h; lines = tells-none fn recording C })
-
-  -- an item that uses no place
-  run-plain : {s : State} {out : List ℕ} {o : Out} {E : Forest} (i : ℕ) → uses-place fn i ≡ false → Counted out o → Holds Γ (local-types fn) (value s) E
-      → Passes Γ fn recording out o out (uses Γ fn entry 1 i E) (fine s o)
-  run-plain {E = E} i u C h = rw (uses-fail Γ fn entry i u 0 E) (run-none (suc i) C h)
-
   module _ {out : List ℕ} {o : Out} (from i : ℕ) (E : Forest) where
     -- one item more
     run-more : {s : State} {out₁ out₂ : List ℕ} {q : Out} {r : Passed} → from ≤ i → Passes Γ fn recording out o out₁ (uses Γ fn entry (i - from) from E) (fine s q)
@@ -71,29 +65,33 @@ abbrev μ-loop : tie.MeasureT-loop
 loop-holds : tie.Need-loop-holds Inv-loop μ-loop
 loop-holds c =
     let s = c .before .before .before .before in
+    let a = s .args in
     let (A, (b, (S, C))) = s .pre in
-    let z : s .args .from - s .args .from ≡ 0 = omega arith in
-    (omega arith, b .0, λ E h. rw z (run-none _ _ _ _ (s .args .from) C h))
+    let z : a .from - a .from ≡ 0 = omega arith in
+    (omega arith, b .0, λ E h. rw z (run-still _ _ _ E (uses-none (a .types .now) (a .fun .now) (a .entry) (a .from) E) C h))
 
-uses-place-requires : tie.Need-uses-place-requires Inv-loop μ-loop
-uses-place-requires c κs = (c .before .before .before .before .before .before .pre .0 .formed .laid, omega arith)
+moves-requires : tie.Need-moves-requires Inv-loop μ-loop
+moves-requires c κs =
+    let (A, (b, (S, C))) = c .before .before .before .before .before .before .before .before .before .before .before .pre in
+    let L = c .before .before .before .before .before .before .loop in
+    (A, (omega arith, (L .t .nodes, passes-stated (L .inv .2 (S .state) (S .holds)) refl)))
 
 use-place-requires : tie.Need-use-place-requires Inv-loop μ-loop
 use-place-requires c κs =
-    let (A, (b, (S, C))) = c .before .before .before .before .before .before .before .before .before .pre in
-    let P = c .before .before .before .before .loop .inv .2 (S .state) (S .holds) in
-    (A, (omega arith, (sym (c .before .before .uses-place .ensures) ∙ c .before .if1 .taken, (passes-stated P refl, passes-counted C P refl))))
+    let (A, (b, (S, C))) = c .before .before .before .before .before .before .before .before .before .before .before .before .before .before .pre in
+    let P = c .before .before .before .before .before .before .before .before .before .loop .inv .2 (S .state) (S .holds) in
+    (A, (omega arith, (c .before .before .moves .ensures .0 (c .before .if1 .taken), (passes-stated P refl, passes-counted C P refl))))
 
 same-length : tie.Need-same-length Inv-loop μ-loop
 same-length c =
-    let S = c .before .before .before .before .before .before .before .before .before .before .before .before .before .before .pre .1 .1 .0 in
-    c .before .before .before .before .use-place .kept .1 .1 .1 .1 .1 .1 .1 .0 ∙ c .before .before .before .before .before .before .before .before .before .loop .inv .2 (S .state) (S .holds) .same
+    let S = c .before .before .before .before .before .before .before .before .before .before .before .before .before .before .before .before .before .before .before .pre .1 .1 .0 in
+    c .before .before .before .before .use-place .kept .1 .1 .1 .1 .1 .1 .1 .0 ∙ c .before .before .before .before .before .before .before .before .before .before .before .before .before .before .loop .inv .2 (S .state) (S .holds) .same
 
 returns : tie.Need-returns Inv-loop μ-loop
 returns c E h =
-    let s = c .before .before .before .before .before .before .before .before .before .before .before .before .before .before in
-    let L = c .before .before .before .before .before .before .before .before .before .loop in
-    run-stop _ _ _ _ (s .args .from) (L .i + 1) E (s .args .end) (omega arith) (omega arith)
+    let s = c .before .before .before .before .before .before .before .before .before .before .before .before .before .before .before .before .before .before .before in
+    let L = c .before .before .before .before .before .before .before .before .before .before .before .before .before .before .loop in
+    run-stop _ _ _ _ (s .args .from) (L .i + 1) E (s .args .end) (omega (arith, c .before .before .before .before .before .before .before .before .before .before .before .before .before .loop-test .taken)) (omega arith)
     (run-more _ _ _ _ (s .args .from) (L .i) E (L .inv .0) (L .inv .2 E h) (c .before .before .before .before .use-place .ensures))
     (c .if2 .taken)
 
@@ -105,8 +103,8 @@ loop-less c = search needs
 
 loop-again : tie.Need-loop-again Inv-loop μ-loop
 loop-again c =
-    let s = c .before .before .before .before .before .before .before .before in
-    let L = c .before .before .before .loop in
+    let s = c .before .before .before .before .before .before .before .before .before .before .before .before .before in
+    let L = c .before .before .before .before .before .before .before .before .loop in
     let (A, (b, (S, C))) = s .pre in (
       omega arith,
       omega arith,
@@ -115,7 +113,7 @@ loop-again c =
           (run-more _ _ _ _ (s .args .from) (L .i) E (L .inv .0) (L .inv .2 E h) (w .2 .ensures)))
           (λ w. passes-fine (w .1) (w .2) (w .3) refl
           (run-more _ _ _ _ (s .args .from) (L .i) E (L .inv .0) (L .inv .2 E h)
-          (λ D k. run-plain _ _ _ _ (L .i) (sym (c .before .uses-place .ensures) ∙ w .0 .left) (passes-counted C (L .inv .2 E h) refl) k)))
+          (λ D k. run-still _ _ _ D (c .before .moves .ensures .1 (w .0 .left) (L .t .nodes) D (s .args .entry) k) (passes-counted C (L .inv .2 E h) refl) k)))
           (c .if1 .came),
     )
 
@@ -136,7 +134,7 @@ pass-items-spec =
     Inv-loop
     μ-loop
     loop-holds
-    uses-place-requires
+    moves-requires
     use-place-requires
     same-length
     returns

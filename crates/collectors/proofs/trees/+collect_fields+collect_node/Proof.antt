@@ -23,7 +23,7 @@ use Rattle.collectors.proofs.trees.collect_node.Reads as collect-node
 use Rattle.collectors.proofs.trees.collect_node.Kinds as collect-node-kinds
 use Rattle.collectors.proofs.trees.+collect_fields+collect_node.Lts-collect_node as collect-node-lts
 use Rattle.collectors.proofs.path.hop.Reads as hop-reads
-use Rattle.collectors.proofs.trees.kids_of.Reads as kids-of-reads
+use Rattle.state.proofs.kids.kids_of.Reads as kids-of-reads
 use Rattle.collectors.proofs.trees.reached.Reads as reached-reads
 use Rattle.collectors.proofs.trees.refuse.Reads as refuse-reads
 use Rattle.collectors.proofs.trees.unfolds_node.Reads as unfolds-node-reads

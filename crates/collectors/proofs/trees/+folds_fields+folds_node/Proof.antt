@@ -24,7 +24,7 @@ use Rattle.collectors.proofs.trees.folds_node.Kinds as folds-node-kinds
 use Rattle.collectors.proofs.trees.+folds_fields+folds_node.Lts-folds_node as folds-node-lts
 use Rattle.collectors.proofs.path.hop.Reads as hop-reads
 use Rattle.collectors.proofs.path.set_item.Reads as set-item-reads
-use Rattle.collectors.proofs.trees.kids_of.Reads as kids-of-reads
+use Rattle.state.proofs.kids.kids_of.Reads as kids-of-reads
 use Rattle.collectors.proofs.trees.reached.Reads as reached-reads
 use Rattle.state.proofs.nodes.node_end.Reads as node-end-reads
 use Rattle.state.proofs.nodes.wide16.Reads as wide16-reads

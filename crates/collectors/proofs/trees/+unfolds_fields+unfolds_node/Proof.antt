@@ -24,7 +24,7 @@ use Rattle.collectors.proofs.trees.unfolds_node.Kinds as unfolds-node-k
 use Rattle.collectors.proofs.trees.+unfolds_fields+unfolds_node.Lts-unfolds_node as unfolds-node-lts
 use Rattle.collectors.proofs.path.hop.Reads as hop-reads
 use Rattle.collectors.proofs.trees.all_folded.Reads as all-folded-reads
-use Rattle.collectors.proofs.trees.kids_of.Reads as kids-of-reads
+use Rattle.state.proofs.kids.kids_of.Reads as kids-of-reads
 use Rattle.collectors.proofs.trees.reached.Reads as reached-reads
 use Rattle.collectors.proofs.trees.refuse.Reads as refuse-reads
 use Rattle.state.proofs.nodes.wide16.Reads as wide16-reads

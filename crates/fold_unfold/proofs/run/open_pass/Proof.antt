@@ -56,14 +56,11 @@ same-length c = search needs
 returns : tie.Need-returns
 returns c = λ m l R. entry-refused (passes (c .before .before .before .before)) (c .if1 .taken) _ m
 
-nblocks-requires : tie.Need-nblocks-requires
-nblocks-requires c κs = c .before .before .before .before .before .before .before .before .before .before .before .before .before .before .before .before .before .before .before .before .before .before .before .before .before .before .pre .0 .formed .laid
-
-goto-requires : tie.Need-goto-requires
-goto-requires c κs =
-    let s = c .before .before .before .before .before .before .before .before .before .before .before .before .before .before .before .before .before .before .before .before .before .before .before .before .before .before .before in
+begin-requires : tie.Need-begin-requires
+begin-requires c κs =
+    let s = c .before .before .before .before .before .before .before .before .before .before .before .before .before .before .before .before .before .before .before .before .before .before .before .before .before .before in
     let H = s .pre .1 .1 in
-    let N = entry-passed (passes (c .before .before .before .before .before .before .before .before .before .before .before .before)) (c .before .before .before .before .before .before .before .before .if1 .left) in
+    let N = entry-passed (passes (c .before .before .before .before .before .before .before .before .before .before .before)) (c .before .before .before .before .before .before .before .if1 .left) in
     let F = facts s in
     let m : Memory = record { kept = H .memory .kept; waits = H .memory .waits; visited = H .memory .visited; lines = [] } in (
       s .pre .0,
@@ -97,12 +94,12 @@ same-length-6 c = search needs
 
 returns-2 : tie.Need-returns-2
 returns-2 c = λ m l R.
-    let s = c .before .before .before .before .before .before .before .before .before .before .before .before .before .before .before .before .before .before .before .before .before .before .before .before .before .before .before .before .before .before .before .before .before .before .before .before .before .before in
-    let N = entry-passed (passes (c .before .before .before .before .before .before .before .before .before .before .before .before .before .before .before .before .before .before .before .before .before .before .before)) (c .before .before .before .before .before .before .before .before .before .before .before .before .before .before .before .before .before .before .before .if1 .left) in
-    let n = c .before .before .before .before .before .before .before .before .before .before .before .nblocks .ensures in
+    let s = c .before .before .before .before .before .before .before .before .before .before .before .before .before .before .before .before .before .before .before .before .before .before .before .before .before .before .before .before .before .before .before .before .before .before .before .before .before in
+    let P = passes (c .before .before .before .before .before .before .before .before .before .before .before .before .before .before .before .before .before .before .before .before .before .before) in
+    let N = entry-passed P (c .before .before .before .before .before .before .before .before .before .before .before .before .before .before .before .before .before .before .if1 .left) in
     rw (opens-jumps N m)
-    (visits-after (record { kept = refl; visited = refl; waits = refl; forms = refl; whats = refl }) ((passes (c .before .before .before .before .before .before .before .before .before .before .before .before .before .before .before .before .before .before .before .before .before .before .before)) .same)
-    (rw n at (c .before .before .before .before .before .before .before .before .before .before .goto .ensures (entered (s .args .types .now) (s .args .fun .now) (s .args .recording) (N .entry .1) m) (N .entry .0) (remembers-entered R (s .args .recording) (N .entry .1)) (N .spoken m l) (N .holds))))
+    (visits-after (record { kept = refl; visited = refl; waits = refl; forms = refl; whats = refl }) (P .same)
+    (c .before .before .before .before .before .before .before .before .before .before .begin .ensures (entered (s .args .types .now) (s .args .fun .now) (s .args .recording) (N .entry .1) m) (N .entry .0) (remembers-entered R (s .args .recording) (N .entry .1)) (N .spoken m l) (N .holds)))
 
 pub open-pass-spec : {M : Type 1} → statement M
 open-pass-spec =
@@ -114,8 +111,7 @@ open-pass-spec =
     pass-items-requires
     same-length
     returns
-    nblocks-requires
-    goto-requires
+    begin-requires
     same-length-2
     same-length-3
     same-length-4

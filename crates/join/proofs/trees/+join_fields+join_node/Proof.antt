@@ -23,7 +23,7 @@ use Rattle.join.proofs.trees.join_node.Reads as join-node
 use Rattle.join.proofs.trees.join_node.Kinds as join-node-kinds
 use Rattle.join.proofs.trees.+join_fields+join_node.Lts-join_node as join-node-lts
 use Rattle.join.proofs.trees.either.Reads as either-reads
-use Rattle.join.proofs.trees.kids_of.Reads as kids-of-reads
+use Rattle.state.proofs.kids.kids_of.Reads as kids-of-reads
 use Rattle.join.proofs.trees.overfull.Reads as overfull-reads
 use Rattle.join.proofs.trees.reached.Reads as reached-reads
 use Rattle.join.proofs.trees.settle_node.Reads as settle-node-reads

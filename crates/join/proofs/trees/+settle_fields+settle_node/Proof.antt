@@ -2,12 +2,10 @@
 -- Each takes apart the tree that its `requires` says is there to show what its calls ask; what it ensures are the laws of `Settles`.
 -- Assumes nothing.
 use borrow.Author.Needs.{needs}
-use mathlib.Core.Path.{_≡_, sym, _∙_}
-use mathlib.Core.Bool.{true}
+use mathlib.Core.Path.{sym, _∙_}
 use Prim.Native.Nat.{_+_, _-_, _*_}
 use native.Mathlib.Omega.{arith}
-use lib.ListN.{length, getD, length-set}
-use Rattle.model.specs.Types.{kind}
+use lib.ListN.{length, length-set}
 use Rattle.base.specs.Typed.{parts-inside}
 use Rattle.records.specs.Codes.{size-pos}
 use Rattle.records.specs.Coded.{coded-in-forms, coded-in-whats, coded-opened}
@@ -26,7 +24,7 @@ use Rattle.join.proofs.trees.settle_node.Reads as settle-node
 use Rattle.join.proofs.trees.settle_node.Kinds as settle-node-kinds
 use Rattle.join.proofs.trees.+settle_fields+settle_node.Lts-settle_node as settle-node-lts
 use Rattle.join.proofs.trees.either.Reads as either-reads
-use Rattle.join.proofs.trees.kids_of.Reads as kids-of-reads
+use Rattle.state.proofs.kids.kids_of.Reads as kids-of-reads
 use Rattle.join.proofs.trees.overfull.Reads as overfull-reads
 use Rattle.join.proofs.trees.reached.Reads as reached-reads
 use Rattle.join.proofs.trees.stays.Reads as stays-reads

@@ -2,7 +2,7 @@
 use borrow.Author.Needs.{needs}
 use borrow.Author.Tests.{not-false}
 use mathlib.Core.Path.{sym, _∙_}
-use Rattle.vectors.proofs.Formed.{function-formed}
+use Rattle.fold_unfold.proofs.Tested.{function-formed}
 use Rattle.vectors.proofs.checks.both.Statement.{statement}
 use Rattle.vectors.proofs.checks.both.Tie as tie
 use Rattle.vectors.proofs.checks.both.Reads as reads

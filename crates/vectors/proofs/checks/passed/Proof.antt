@@ -1,6 +1,6 @@
 -- `vectors::checks::passed` meets its contract. Assumes nothing.
 use borrow.Author.Needs.{needs}
-use Rattle.vectors.proofs.Formed.{zeros}
+use Rattle.fold_unfold.proofs.Begun.{zero-word}
 use Rattle.vectors.proofs.checks.passed.Statement.{statement}
 use Rattle.vectors.proofs.checks.passed.Tie as tie
 use Rattle.vectors.proofs.checks.passed.Reads as reads
@@ -28,7 +28,7 @@ slice-aggregate-fill-join-points c = search needs
 
 -- src/checks.rt:28:5
 fill-join-points-requires : tie.Need-fill-join-points-requires
-fill-join-points-requires c κs = (search needs, (search needs, zeros))
+fill-join-points-requires c κs = (search needs, (search needs, zero-word 256))
 
 -- src/checks.rt:29:5
 print-number-requires-2 : tie.Need-print-number-requires-2

@@ -110,11 +110,24 @@ few c =
     let l = loaded (c .before .before .before .before .before .before .before .before .before .before .before .before) (v .0) (v .1) in
     joined-few (met (c .before .before .before .before .before .before .before .before) (v .0) (p .0 .state) (v .1) (p .0 .holds)) (l .full .valid) (holds-valid (p .0 .holds)) (c .before .before .j .given .1)
 
+enum-known-j : tie.Need-enum-known-j
+enum-known-j c = search needs
+
 enum-told : tie.Need-enum-told
 enum-told c = search needs
 
-enum-known-j : tie.Need-enum-known-j
-enum-known-j c = search needs
+same-length-5 : tie.Need-same-length-5
+same-length-5 c = search needs
+
+same-length-6 : tie.Need-same-length-6
+same-length-6 c = search needs
+
+returns-2 : tie.Need-returns-2
+returns-2 c =
+    let j = c .before .before .before .before .before .before in (
+      λ o E v h. let l = loaded (j .before .before .before .before) o v in rw (l .is) (arrives-over (met j o E v h) (l .full .valid) (holds-valid h) (c .enum-told .given .1)),
+      (refl, refl, j .join-into .kept .1 .1 .1 .1 .1 .0, j .join-into .kept .1 .1 .1 .1 .1 .1 .0),
+    )
 
 add-small-2 : tie.Need-add-small-2
 add-small-2 c = omega (arith, few c)
@@ -130,19 +143,6 @@ slice-write-kept-2 c = c .before .before .before .before .before .before .before
 
 insert-requires-2 : tie.Need-insert-requires-2
 insert-requires-2 c κs = c .before .before .before .before .before .before .before .before .before .before .before .before .before .before .before .before .before .before .before .before .before .before .before .before .before .before .before .pre .1 .1 .0 .1
-
-same-length-5 : tie.Need-same-length-5
-same-length-5 c = search needs
-
-same-length-6 : tie.Need-same-length-6
-same-length-6 c = search needs
-
-returns-2 : tie.Need-returns-2
-returns-2 c =
-    let j = c .before .before .before .before .before .before in (
-      λ o E v h. let l = loaded (j .before .before .before .before) o v in rw (l .is) (arrives-over (met j o E v h) (l .full .valid) (holds-valid h) (c .enum-told .given .1)),
-      (refl, refl, j .join-into .kept .1 .1 .1 .1 .1 .0, j .join-into .kept .1 .1 .1 .1 .1 .1 .0),
-    )
 
 same-length-7 : tie.Need-same-length-7
 same-length-7 c = search needs
@@ -198,16 +198,16 @@ arrive-spec =
     load-state-requires
     local-types-requires
     join-into-requires
-    enum-told
     enum-known-j
+    enum-told
+    same-length-5
+    same-length-6
+    returns-2
     add-small-2
     small-requires-2
     mul-kept-2
     slice-write-kept-2
     insert-requires-2
-    same-length-5
-    same-length-6
-    returns-2
     same-length-7
     same-length-8
     same-length-9

@@ -236,7 +236,7 @@ module _ (t : ℕ) where
       let a = c .before .before .before .before .before .before .before .before .before .before .before .before .before .before .before .before .before .before .before .before .before .before .before .before .before .before .before .before .before .args in
       let p = c .before .before .before .before .before .before .before .before .before .before .before .before .before .before .before .before .before .before .before .before .before .before .before .before .before .before .before .before .before .pre .1 in
       let e = c .before .before .before .before .before .before .before .before .before .before .before .before .before .before .before .before .before .wide .ensures ∙ p .1 .0 .numbers _ (p .1 .1 .1 .0 .1) in
-      rw (jumps-meet (a .types .now) (a .fun .now) (a .recording) (a .left) (exit (a .fun .now) (a .entry) (a .i) (a .c) E) m (share-joins _ _ (λ z. c .before .before .before .before .before .before .before .before .before .before .before .before .before .before .before .before .if1 .taken (e ∙ z))))
+      rw (jumps-meet (a .types .now) (a .fun .now) (a .recording) (a .left) (exit (a .fun .now) false (a .i) (a .c) E) m (share-joins _ _ (λ z. c .before .before .before .before .before .before .before .before .before .before .before .before .before .before .before .before .if1 .taken (e ∙ z))))
       (c .before .before .before .before .before .before .before .before .before .before .meet .ensures m E R N H)
 
   goto-returns-2 : goto-lts.Need-returns-2 goto-claims goto-at goto.Post
@@ -244,7 +244,7 @@ module _ (t : ℕ) where
       let a = c .before .before .before .before .before .before .before .before .before .before .before .before .before .before .args in
       let p = c .before .before .before .before .before .before .before .before .before .before .before .before .before .before .pre .1 in
       let e = c .before .before .wide .ensures ∙ p .1 .0 .numbers _ (p .1 .1 .1 .0 .1) in
-      visits-refused (jumps-enter (a .types .now) (a .fun .now) (a .recording) (a .left) (exit (a .fun .now) (a .entry) (a .i) (a .c) E) m (none-joins _ _ (sym e ∙ c .before .if1 .left))
+      visits-refused (jumps-enter (a .types .now) (a .fun .now) (a .recording) (a .left) (exit (a .fun .now) false (a .i) (a .c) E) m (none-joins _ _ (sym e ∙ c .before .if1 .left))
       ∙ rw (c .if2 .taken) (enters-none (a .types .now) (a .fun .now) (a .recording) 0 (a .c) E m)) (alike-same _) refl
 
   goto-sub-basic-block : goto-lts.Need-sub-basic-block goto-claims goto-at goto.Post
@@ -276,7 +276,7 @@ module _ (t : ℕ) where
       let p = c .before .before .before .before .before .before .before .before .before .before .before .before .before .before .before .before .before .before .before .before .before .before .before .before .before .before .before .before .before .before .pre .1 in
       let e = c .before .before .before .before .before .before .before .before .before .before .before .before .before .before .before .before .before .before .wide .ensures ∙ p .1 .0 .numbers _ (p .1 .1 .1 .0 .1) in
       let z : suc (a .left - 1) ≡ a .left = omega (arith, c .before .before .before .before .before .before .before .before .before .before .before .before .before .before .before .before .if2 .left) in
-      rw (jumps-enter (a .types .now) (a .fun .now) (a .recording) (a .left) (exit (a .fun .now) (a .entry) (a .i) (a .c) E) m (none-joins _ _ (sym e ∙ c .before .before .before .before .before .before .before .before .before .before .before .before .before .before .before .before .before .if1 .left)))
+      rw (jumps-enter (a .types .now) (a .fun .now) (a .recording) (a .left) (exit (a .fun .now) false (a .i) (a .c) E) m (none-joins _ _ (sym e ∙ c .before .before .before .before .before .before .before .before .before .before .before .before .before .before .before .before .before .if1 .left)))
       (rw z at (c .before .before .before .before .before .before .before .before .before .before .basic-block .ensures m E R N H))
 
   -- the item at hand is one of the block

@@ -1,0 +1,3 @@
+-- What the proof of the exported call cites.
+pub mod Numbered
+pub mod Answered

@@ -1,0 +1,2 @@
+-- What the contract of the exported call cites beside the definitions of model.
+pub mod Answers

@@ -1,0 +1,26 @@
+// The whole-function call for programs in Rust and C, as a static library.
+ghost use mathlib.Core.Path.{_≡_};
+ghost use Rattle.model.specs.Replay.{Replayed};
+ghost use Rattle.exports.specs.Answers.{Exported};
+use fold_unfold::Ghosts;
+use fold_unfold::ghost_statements;
+
+// 0, or the refusal. Accepted: the counts of statements and entries are the first two words of out. A refusal leaves zeros in all
+// that was lent.
+#[no_mangle]
+pub extern "C" fn exports_ghost_statements(
+    types: &[u32],
+    fun: &[u32],
+    forms: &mut [u16],
+    whats: &mut [u16],
+    out: &mut [u32],
+) -> u32
+    ensures { λ r. ⌜ Exported (now (types .entry)) (now (fun .entry)) (now (forms .entry)) (now (whats .entry)) (now (out .entry)) (now (forms .exit)) (now (whats .exit)) (now (out .exit)) r ⌝ }
+    ensures replayed { λ r. ⌜ (r ≡ 0 → Replayed (now (types .entry)) (now (fun .entry)) (now (out .exit))) ⌝ }
+{
+    let g = ghost_statements(types, fun, forms, whats, out);
+    match g {
+        Ghosts::Refused(n) => n,
+        Ghosts::Done { .. } => 0,
+    }
+}

@@ -1,0 +1,30 @@
+-- A text that is read, whatever bytes each read brings, and what is printed.
+use mathlib.Core.Path.{_≡_}
+use mathlib.Core.List.{List}
+use Prim.Native.Nat.{ℕ, _≤_}
+use lib.ListN.{length, take}
+use Rattle.model.specs.Ghosts.{fresh, close, scan}
+use Rattle.records.specs.Scanned.{scan-pieces}
+use Rattle.text.specs.declared.scan.Scan.{Scan}
+use Rattle.text.specs.Reading.{Reads, Steps}
+
+-- some pieces have been read
+pub record Heard (s : Scan) (words : List ℕ) : Type 0 where
+  pub pieces : List (List ℕ)
+  pub reads : Reads (scan-pieces pieces fresh) s words
+
+-- a piece more is read
+pub record Hears (s : Scan) (words : List ℕ) (r : Scan) (after : List ℕ) : Type 0 where
+  pub piece : List ℕ
+  pub steps : Steps (scan piece) s words r after
+
+-- some pieces have been read, and that was all
+pub record Ended (s : Scan) (words : List ℕ) : Type 0 where
+  pub pieces : List (List ℕ)
+  pub reads : Reads (close (scan-pieces pieces fresh)) s words
+
+-- bytes are printed into t, up to r
+pub record Says (t t′ : List ℕ) (r : ℕ) (bytes : List ℕ) : Type 0 where
+  pub long : length t′ ≡ length t
+  pub inside : r ≤ length t
+  pub said : take r t′ ≡ bytes

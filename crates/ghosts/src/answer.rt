@@ -1,0 +1,79 @@
+// What the program answers to the words that it has read, as text.
+ghost use mathlib.Core.Path.{_≡_};
+ghost use mathlib.Core.List.{List};
+ghost use Prim.Native.Nat.{ℕ, _≤_};
+ghost use lib.ListN.{length};
+ghost use Rattle.model.specs.Answer.{done};
+ghost use Rattle.model.specs.Block.{entry-point};
+ghost use Rattle.model.specs.Whole.{found};
+ghost use Rattle.model.specs.Ghosts.{fresh, close, answer-text, printed, ghosts, ghosts-store, ghosts-buffer};
+ghost use Rattle.records.specs.Scanned.{scan-pieces, joined};
+ghost use Rattle.text.specs.Reading.{Reads};
+ghost use Rattle.ghosts.specs.Said.{Ended, Says};
+use fold_unfold::Ghosts;
+use fold_unfold::ghost_statements;
+use text::print::print_record;
+use text::print::print_refusal;
+use text::scan::Scan;
+use text::split::function_length;
+use text::split::function_start;
+
+// An array of the store, for 16 join points.
+fn store() -> [u16; 8192]
+    ensures { λ r. ⌜ length r ≡ 8192 ⌝ }
+{
+    [0; 8192]
+}
+
+// The statement buffer, for 1,024 entries.
+fn buffer() -> [u32; 2050]
+    ensures { λ r. ⌜ length r ≡ 2050 ⌝ }
+{
+    [0; 2050]
+}
+
+// The statements of a function, or the refusal.
+fn answer_records(types: &[u32], fun: &[u32], text: &mut [u8]) -> usize
+    requires { ⌜ length (now text) ≡ 14336 ⌝ }
+    ensures { λ r. ⌜ Says (now (text .entry)) (now (text .exit)) r (answer-text (entry-point (now (fun .entry))) (found (now (types .entry)) (now (fun .entry)) ghosts-store ghosts-store ghosts-buffer)) ⌝ }
+{
+    let mut forms = store();
+    let mut whats = store();
+    let mut out = buffer();
+    let a = ghost_statements(types, fun, &mut forms, &mut whats, &mut out);
+    match a {
+        Ghosts::Refused(n) => print_refusal(text, n),
+        Ghosts::Done {
+            statements: _,
+            entries: _,
+        } => print_record(&out, text),
+    }
+}
+
+// Both records in these words; spare words are refused.
+fn answer_words(words: &[u32], text: &mut [u8]) -> usize
+    requires { ⌜ length (now text) ≡ 14336 ⌝ }
+    ensures { λ r. ⌜ Says (now (text .entry)) (now (text .exit)) r (printed (done (now (words .entry)))) ⌝ }
+{
+    let n = words.len();
+    let a = function_start(words);
+    let fun = &words[a..n];
+    if function_length(fun) < fun.len() {
+        return print_refusal(text, 2);
+    }
+    answer_records(&words[..a], fun, text)
+}
+
+// The answer to a text that has been read to its end, in whatever pieces.
+pub fn respond(s: Scan, words: &[u32], text: &mut [u8]) -> usize
+    requires { ⌜ Ended s (now words) ⌝ }
+    requires { ⌜ length (now text) ≡ 14336 ⌝ }
+    ensures { λ r. ⌜ ((ps : List (List ℕ)) → Reads (close (scan-pieces ps fresh)) s (now (words .entry)) → Says (now (text .entry)) (now (text .exit)) r (ghosts (joined ps))) ⌝ }
+    ensures within { λ r. ⌜ r ≤ length (now (text .entry)) ⌝ }
+{
+    if !s.fine {
+        return print_refusal(text, 2);
+    }
+    let n = s.total;
+    answer_words(&words[..n], text)
+}

@@ -1,2 +1,0 @@
--- What the proofs cite.
-pub mod Formed
