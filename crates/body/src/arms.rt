@@ -106,7 +106,7 @@ fn try_arm(
     t: usize,
     i: usize,
     s: State,
-    taken: &mut [u32],
+    taken: &mut [u8],
 ) -> Outcome
     requires { ⌜ Accepted (now types) (now offs) (now fun) ⌝ }
     requires { ⌜ Sought (now types) (now fun) read t ⌝ }
@@ -133,7 +133,7 @@ pub struct Rest {
     pub other: u32,
 }
 
-fn rest_of(types: &[u32], t: usize, taken: &[u32]) -> Rest
+fn rest_of(types: &[u32], t: usize, taken: &[u8]) -> Rest
     requires { ⌜ types-ok (now types) ≡ true ⌝ }
     requires { ⌜ t < ntypes (now types) ⌝ }
     requires { ⌜ length (now taken) ≡ 16384 ⌝ }
@@ -161,7 +161,7 @@ fn try_other(
     read: usize,
     t: usize,
     s: State,
-    taken: &[u32],
+    taken: &[u8],
 ) -> Plan
     requires { ⌜ Accepted (now types) (now offs) (now fun) ⌝ }
     requires { ⌜ Sought (now types) (now fun) read t ⌝ }
@@ -202,7 +202,7 @@ fn try_arms(
     from: usize,
     end: usize,
     s: State,
-    taken: &mut [u32],
+    taken: &mut [u8],
 ) -> Plan
     requires { ⌜ Accepted (now types) (now offs) (now fun) ⌝ }
     requires { ⌜ b < nblocks (now fun) ⌝ }
@@ -265,7 +265,7 @@ pub fn plan_of(
     match e {
         Enum::Refused(n) => Plan::Refused(n),
         Enum::Of(t) => {
-            let mut taken = [0u32; 16384];
+            let mut taken = [0u8; 16384];
             try_arms(types, offs, fun, b, read, t, from, end, s, &mut taken)
         }
     }

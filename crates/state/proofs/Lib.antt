@@ -4,3 +4,4 @@ pub mod Fields
 pub mod Locals
 pub mod Finding
 mod Ends
+mod Skipping

@@ -70,13 +70,18 @@ pub fn fields_end<'a>(
     requires { ⌜ Heres (now types) (now forms) (now whats) i (parts (now types) u j n) ⌝ }
     ensures { λ r. ⌜ ((xs : Forest) → CodedAll (now (types .entry)) (now (forms .entry)) (now (whats .entry)) i (parts (now (types .entry)) u j n) xs → r ≡ i + sizes xs) ⌝ }
 {
-    if n == 0 {
-        i
-    } else {
-        let t = part_at(types, offs, u, j);
-        let e = node_end(types, offs, forms, whats, i, t);
-        fields_end(types, offs, forms, whats, e, u, j + 1, n - 1)
+    let mut e = i;
+    let mut k = 0;
+    while k < n {
+        if forms[e] == 0 {
+            e += 1;
+        } else {
+            let t = part_at(types, offs, u, j + k);
+            e = node_end(types, offs, forms, whats, e, t);
+        }
+        k += 1;
     }
+    e
 }
 
 // The index of the tree of local l.

@@ -26,9 +26,6 @@ few c =
     let p = c .before .before .before .before .before .pre in
     omega (arith, c .before .before .count-of .ensures, count-few (types-typed _ (p .0)) (p .1 .0))
 
-mul-if1 : tie.Need-mul-if1 Inv-loop μ-loop
-mul-if1 c = omega (arith, few c)
-
 shared-slice-read-if1 : tie.Need-shared-slice-read-if1 Inv-loop μ-loop
 shared-slice-read-if1 c = omega (arith, few (c .before))
 
@@ -59,4 +56,4 @@ returns c =
 
 pub rest-of-spec : {M : Type 1} → statement M
 rest-of-spec =
-    tie.close (tie.spec Inv-loop μ-loop count-of-requires loop-holds mul-if1 shared-slice-read-if1 add-left small-requires add-v loop-less loop-again returns)
+    tie.close (tie.spec Inv-loop μ-loop count-of-requires loop-holds shared-slice-read-if1 add-left small-requires add-v loop-less loop-again returns)

@@ -44,9 +44,6 @@ entry c =
     let s = c .before .before .before .before .before .before .before .before .before .before in
     omega (arith, variant-below _ _ _ (known c), count-few (ready-typed (s .pre .0 .ready)) (s .pre .1 .0 .known))
 
-mul-if1 : tie.Need-mul-if1
-mul-if1 c = omega (arith, entry c)
-
 slice-read-if1 : tie.Need-slice-read-if1
 slice-read-if1 c = omega (arith, entry (c .before), c .before .before .before .before .before .before .before .before .before .before .before .pre .1 .1 .1 .1)
 
@@ -54,9 +51,6 @@ returns-2 : tie.Need-returns-2
 returns-2 c = λ E h.
     let p = c .before .before .before .before .before .before .before .before .before .before .before .before .pre in
     tried-lost _ (free-lost _ _ _ _ (known (c .before .before)) (ready-typed (p .0 .ready)) (p .1 .0 .known) (p .1 .0 .enum) (c .if1 .taken))
-
-mul-taken : tie.Need-mul-taken
-mul-taken c = omega (arith, entry (c .before .before))
 
 slice-write-taken : tie.Need-slice-write-taken
 slice-write-taken c = omega (arith, entry (c .before .before), c .before .before .before .before .before .before .before .before .before .before .before .before .pre .1 .1 .1 .1)
@@ -87,10 +81,8 @@ try-arm-spec =
     enum-known-a
     enum-told
     returns
-    mul-if1
     slice-read-if1
     returns-2
-    mul-taken
     slice-write-taken
     small-requires
     open-variant-requires

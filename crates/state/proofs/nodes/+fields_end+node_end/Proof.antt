@@ -1,18 +1,19 @@
 -- The proof of the cycle of calls {fields_end, node_end}. The measure is twice what is left of the forms, and one more for `fields_end`.
--- Each takes apart the tree that its `requires` says is there to show what its calls ask, and the tree that its `ensures` is asked of.
--- Assumes nothing.
+-- The trees in a row are passed one by one (`Skipping`); a tree is taken apart at its node. Assumes nothing.
 use borrow.Author.Needs.{needs}
-use mathlib.Core.Path.{ap}
-use Prim.Native.Nat.{_+_, _-_, _*_}
+use mathlib.Core.Path.{_∙_, ap}
+use mathlib.Core.Logic.{⊎-elim}
+use Prim.Native.Nat.{_+_, _-_, _*_, _≤_}
 use native.Mathlib.Omega.{arith}
 use lib.ListN.{length}
-use Rattle.model.specs.Types.{kids}
-use Rattle.model.specs.Tree.{size, sizes}
+use Rattle.model.specs.Types.{parts, kids}
+use Rattle.model.specs.Tree.{Forest, size}
 use Rattle.base.specs.Typed.{first-fits, owner-known, parts-inside}
 use Rattle.records.specs.Codes.{size-pos}
 use Rattle.records.specs.Coded.{coded-in-forms, coded-in-whats, coded-folded, coded-opened}
-use Rattle.records.specs.CodedParts.{coded-no-part, coded-part}
-use Rattle.state.proofs.Fields.{ready-typed, ready-sized, ready-counted, fields-open, fields-first, fields-rest}
+use Rattle.records.specs.Here.{CodedAll}
+use Rattle.state.proofs.Fields.{ready-typed, ready-sized, ready-counted, fields-open}
+use Rattle.state.proofs.Skipping.{Passed, passed-none, passed-all, passed-split, passed-more, passed-folded}
 use Prim.Native.Nat.{ℕ, _<_}
 use borrow.Fn.Kinds.{In}
 use borrow.Fn.PlainCycle.{Measures, is, falls, and}
@@ -36,6 +37,13 @@ abbrev μ-fields-end : Measures 3 fields-end-kinds.ps ℕ
 abbrev μ-node-end : Measures 3 node-end-kinds.ps ℕ
 μ-node-end κs a = 2 * (length (a .1 .1 .0 .now) - a .1 .1 .1 .1 .0)
 
+abbrev fields-end-Inv-loop : fields-end-lts.InvT-loop
+fields-end-Inv-loop types offs forms whats i u j n e₀ k₀ e k =
+    (k ≤ n) × (i ≤ e) × ((xs : Forest) → CodedAll types forms whats i (parts types u j n) xs → Passed types forms whats i u j n xs e k)
+
+abbrev fields-end-μ-loop : fields-end-lts.MeasureT-loop
+fields-end-μ-loop types offs forms whats i u j n e₀ k₀ e k = n - k
+
 module _ (t : ℕ) where
   abbrev fields-end-at : In 3 fields-end-kinds.ps
   fields-end-at = and 3 fields-end-kinds.ps (is 3 fields-end-kinds.ps μ-fields-end t) fields-end.Pre
@@ -50,55 +58,86 @@ module _ (t : ℕ) where
   node-end-below = and 3 node-end-kinds.ps (falls 3 node-end-kinds.ps _<_ μ-node-end t) node-end.Pre
 
   abbrev fields-end-claims : fields-end-lts.Claims
-  fields-end-claims = (part-at-reads.Asked, part-at-reads.Learnt, node-end-below, node-end.Post, fields-end-below, fields-end.Post)
+  fields-end-claims = (part-at-reads.Asked, part-at-reads.Learnt, node-end-below, node-end.Post)
 
   abbrev node-end-claims : node-end-lts.Claims
   node-end-claims = (wide16-reads.Asked, wide16-reads.Learnt, owner-of-reads.Asked, owner-of-reads.Learnt, first-of-reads.Asked, first-of-reads.Learnt, count-of-reads.Asked, count-of-reads.Learnt, fields-end-below, fields-end.Post)
 
-  fields-end-part-at-requires : fields-end-lts.Need-part-at-requires fields-end-claims fields-end-at fields-end.Post
-  fields-end-part-at-requires c κs =
-      let p = c .before .before .before .before .before .pre .1 in
-      (ready-counted (p .0), (p .0 .offsets, (p .1 .0 .known, omega arith)))
+  fields-end-loop-holds : fields-end-lts.Need-loop-holds fields-end-claims fields-end-at fields-end.Post fields-end-Inv-loop fields-end-μ-loop
+  fields-end-loop-holds c = (omega arith, omega arith, λ xs h. passed-none h)
 
-  fields-end-node-end-requires : fields-end-lts.Need-node-end-requires fields-end-claims fields-end-at fields-end.Post
-  fields-end-node-end-requires c κs =
-      let a = c .before .before .before .before .before .before .args in
-      let p = c .before .before .before .before .before .before .pre .1 in
-      let e = c .part-at .ensures in
-      let S = coded-part (a .u) (a .j) (a .n) (omega arith) (p .1 .1 .coded) in
-      (omega arith, (p .0, (rw e (fields-first (p .1 .0) (omega arith)), record { tree = S .head; coded = rw e (S .here) })))
+  -- the trees that its `requires` says are there, passed so far
+  passed : (c : fields-end-lts.In-loop fields-end-claims fields-end-at fields-end.Post fields-end-Inv-loop fields-end-μ-loop) → let a = c .before .before .before .before .before .before .args in
+      Passed (a .types .now) (a .forms .now) (a .whats .now) (a .i) (a .u) (a .j) (a .n) (c .before .before .before .before .before .before .pre .1 .1 .1 .trees) (c .before .loop .e) (c .before .loop .k)
+  passed c = c .before .loop .inv .2 (c .before .before .before .before .before .before .pre .1 .1 .1 .trees) (c .before .before .before .before .before .before .pre .1 .1 .1 .coded)
 
-  fields-end-add-fields-end : fields-end-lts.Need-add-fields-end fields-end-claims fields-end-at fields-end.Post
-  fields-end-add-fields-end c =
-      let a = c .before .before .before .before .before .before .before .args in
-      let p = c .before .before .before .before .before .before .before .pre .1 in
-      let T = ready-typed (p .0) in
-      omega (arith, parts-inside T (a .u) (p .1 .0 .known), T .few-parts, p .1 .0 .inside)
+  -- the next one stands in both arrays
+  next-in : (c : fields-end-lts.In-loop fields-end-claims fields-end-at fields-end.Post fields-end-Inv-loop fields-end-μ-loop) → c .before .loop .e < length (c .before .before .before .before .before .before .args .forms .now)
+  next-in c =
+      let S = passed-split (passed c) (c .loop-test .taken) in
+      omega (arith, coded-in-forms (S .here), size-pos (S .head))
 
-  fields-end-sub-fields-end : fields-end-lts.Need-sub-fields-end fields-end-claims fields-end-at fields-end.Post
-  fields-end-sub-fields-end c = omega arith
+  fields-end-mul-if1 : fields-end-lts.Need-mul-if1 fields-end-claims fields-end-at fields-end.Post fields-end-Inv-loop fields-end-μ-loop
+  fields-end-mul-if1 c = omega (arith, next-in c)
 
-  fields-end-fields-end-requires : fields-end-lts.Need-fields-end-requires fields-end-claims fields-end-at fields-end.Post
-  fields-end-fields-end-requires c κs =
-      let a = c .before .before .before .before .before .before .before .args in
-      let p = c .before .before .before .before .before .before .before .pre .1 in
-      let S = coded-part (a .u) (a .j) (a .n) (omega arith) (p .1 .1 .coded) in
-      let e = c .node-end .ensures (S .head) (rw (c .before .part-at .ensures) (S .here)) in
-      (omega (arith, size-pos (S .head), coded-in-forms (S .here)), (p .0, (fields-rest (p .1 .0) (omega arith), record { trees = S .tail; coded = rw e (S .rest) })))
+  fields-end-shared-slice-read-if1 : fields-end-lts.Need-shared-slice-read-if1 fields-end-claims fields-end-at fields-end.Post fields-end-Inv-loop fields-end-μ-loop
+  fields-end-shared-slice-read-if1 c = omega (arith, next-in (c .before))
 
-  fields-end-returns : fields-end-lts.Need-returns fields-end-claims fields-end-at fields-end.Post
-  unfolding sizes
-  fields-end-returns c =
-      let a = c .before .before .before .before .before .args in
-      λ xs h. omega (arith, ap sizes (coded-no-part (a .u) (a .j) (a .n) (c .if1 .taken) h))
+  fields-end-add-e : fields-end-lts.Need-add-e fields-end-claims fields-end-at fields-end.Post fields-end-Inv-loop fields-end-μ-loop
+  fields-end-add-e c = omega (arith, next-in (c .before .before))
 
-  fields-end-returns-2 : fields-end-lts.Need-returns-2 fields-end-claims fields-end-at fields-end.Post
-  fields-end-returns-2 c =
+  fields-end-add-part-at : fields-end-lts.Need-add-part-at fields-end-claims fields-end-at fields-end.Post fields-end-Inv-loop fields-end-μ-loop
+  fields-end-add-part-at c =
       let a = c .before .before .before .before .before .before .before .before .args in
-      λ xs h.
-      let S = coded-part (a .u) (a .j) (a .n) (omega arith) h in
-      let e = c .before .node-end .ensures (S .head) (rw (c .before .before .part-at .ensures) (S .here)) in
-      omega (arith, c .fields-end .ensures (S .tail) (rw e (S .rest)), S .long)
+      let p = c .before .before .before .before .before .before .before .before .pre .1 in
+      let T = ready-typed (p .0) in
+      omega (arith, parts-inside T (a .u) (p .1 .0 .known), T .few-parts, p .1 .0 .inside, c .before .before .loop-test .taken)
+
+  fields-end-part-at-requires : fields-end-lts.Need-part-at-requires fields-end-claims fields-end-at fields-end.Post fields-end-Inv-loop fields-end-μ-loop
+  fields-end-part-at-requires c κs =
+      let p = c .before .before .before .before .before .before .before .before .pre .1 in
+      (ready-counted (p .0), (p .0 .offsets, (p .1 .0 .known, omega (arith, p .1 .0 .inside, c .before .before .loop-test .taken))))
+
+  fields-end-node-end-requires : fields-end-lts.Need-node-end-requires fields-end-claims fields-end-at fields-end.Post fields-end-Inv-loop fields-end-μ-loop
+  fields-end-node-end-requires c κs =
+      let p = c .before .before .before .before .before .before .before .before .before .pre .1 in
+      let e = c .part-at .ensures in
+      let S = passed-split (passed (c .before .before .before)) (c .before .before .before .loop-test .taken) in
+      (omega (arith, c .before .before .before .before .loop .inv .1, c .before .before .before .before .before .before .before .before .before .pre .0), (p .0, (rw e (p .1 .0 .types _ (c .before .before .before .loop-test .taken)), record { tree = S .head; coded = rw e (S .here) })))
+
+  fields-end-add-k : fields-end-lts.Need-add-k fields-end-claims fields-end-at fields-end.Post fields-end-Inv-loop fields-end-μ-loop
+  fields-end-add-k c = omega (arith, c .before .before .loop-test .taken)
+
+  fields-end-loop-less : fields-end-lts.Need-loop-less fields-end-claims fields-end-at fields-end.Post fields-end-Inv-loop fields-end-μ-loop
+  fields-end-loop-less c = omega (arith, c .before .before .loop-test .taken)
+
+  fields-end-loop-again : fields-end-lts.Need-loop-again fields-end-claims fields-end-at fields-end.Post fields-end-Inv-loop fields-end-μ-loop
+  fields-end-loop-again c =
+      let p = c .before .before .before .before .before .before .before .before .pre .1 in
+      let L = c .before .before .before .loop in
+      let l = c .before .before .loop-test .taken in
+      ⊎-elim
+      (λ w. (
+        omega (arith, l),
+        omega (arith, L .inv .1, w .1),
+        λ xs h.
+            let P = L .inv .2 xs h in
+            passed-more P l (w .1 ∙ passed-folded P (ready-typed (p .0) .known) l (w .0 .taken)),
+      ))
+      (λ w.
+      let Q = passed (c .before .before) in
+      let S = passed-split Q l in (
+        omega (arith, l),
+        omega (arith, L .inv .1, w .3, w .2 .ensures (S .head) (rw (w .1 .ensures) (S .here))),
+        λ xs h.
+            let P = L .inv .2 xs h in
+            let R = passed-split P l in
+            passed-more P l (w .3 ∙ w .2 .ensures (R .head) (rw (w .1 .ensures) (R .here))),
+      ))
+      (c .if1 .came)
+
+  fields-end-returns : fields-end-lts.Need-returns fields-end-claims fields-end-at fields-end.Post fields-end-Inv-loop fields-end-μ-loop
+  fields-end-returns c = λ xs h. passed-all (c .before .loop .inv .2 xs h) (omega (arith, c .loop-test .left))
 
   -- the node's place is in both arrays
   node-in : (s : node-end-lts.Start node-end-claims node-end-at node-end.Post) → (s .args .i < length (s .args .forms .now)) × (s .args .i < length (s .args .whats .now))
@@ -186,5 +225,5 @@ module _ (t : ℕ) where
 pub +fields-end+node-end-spec : {M : Type 1} → statement M
 +fields-end+node-end-spec =
     close μ-fields-end μ-node-end
-    (λ t. fields-end-lts.spec (fields-end-claims t) (fields-end-at t) fields-end.Post (fields-end-part-at-requires t) (fields-end-node-end-requires t) (fields-end-add-fields-end t) (fields-end-sub-fields-end t) (fields-end-fields-end-requires t) (fields-end-returns t) (fields-end-returns-2 t))
+    (λ t. fields-end-lts.spec (fields-end-claims t) (fields-end-at t) fields-end.Post fields-end-Inv-loop fields-end-μ-loop (fields-end-loop-holds t) (fields-end-mul-if1 t) (fields-end-shared-slice-read-if1 t) (fields-end-add-e t) (fields-end-add-part-at t) (fields-end-part-at-requires t) (fields-end-node-end-requires t) (fields-end-add-k t) (fields-end-loop-less t) (fields-end-loop-again t) (fields-end-returns t))
     (λ t. node-end-lts.spec (node-end-claims t) (node-end-at t) node-end.Post (node-end-mul-if1 t) (node-end-shared-slice-read-if1 t) (node-end-add-result t) (node-end-mul-wide16 t) (node-end-shared-slice-read-wide16 t) (node-end-wide16-requires t) (node-end-owner-of-requires t) (node-end-first-of-requires t) (node-end-count-of-requires t) (node-end-sub-n t) (node-end-add-fields-end t) (node-end-fields-end-requires t) (node-end-returns t) (node-end-returns-2 t))

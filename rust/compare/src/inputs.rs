@@ -1,0 +1,216 @@
+//! Functions to measure, each as its type record and its function record.
+
+use hirvoksne::{Elem, Function, Label, Open, Place, Types};
+use oracle::generate::{random, rng::Rng, Kind, Size};
+use oracle::{
+    case::Call,
+    function::{MAX_BLOCKS, MAX_ITEMS},
+    types::MAX_TYPES,
+};
+
+pub struct Input {
+    pub types: Vec<u32>,
+    pub function: Vec<u32>,
+}
+
+impl Input {
+    fn new(types: &Types, function: &Function) -> Input {
+        Input { types: types.record(), function: function.record() }
+    }
+
+    /// Blocks and items.
+    pub fn sizes(&self) -> (usize, usize) {
+        (self.function[2] as usize, self.function[3] as usize)
+    }
+}
+
+fn labels(function: &mut Function, count: usize) -> Vec<Label> {
+    (0..count).map(|_| function.block()).collect()
+}
+
+/// The deepest chain: each block leads to the next alone, the last but one twice to the last, which
+/// is a join point. The state has 511 nodes and is 63 deep, the deep field last, since a level of
+/// recursion is taken for each field before it too. Every block uses a place and matches on an enum,
+/// and the last but one folds the deep local and opens it again.
+pub fn match_chain(blocks: usize) -> Input {
+    let mut types = Types::new();
+    let int = types.opaque();
+    let one = types.structure(&[int]);
+    let mut deep = int;
+    for _ in 0..63 {
+        deep = types.structure(&[int, int, int, int, int, int, int, deep]);
+    }
+    let variants = [types.variant(0, &[int]), types.variant(1, &[int])];
+    let choice = types.enumeration(&variants);
+    let mut function = Function::new(int, &[deep, choice, one], &[int]);
+    let labels = labels(&mut function, blocks);
+    let deepest = Place { local: 1, elems: vec![Elem::Field(7); 63] };
+    for (at, pair) in labels.windows(2).enumerate() {
+        let last = at + 2 == blocks;
+        let block = Open::new().used(&Place::local(3).field(0));
+        let block = if at == 0 { block.used(&deepest) } else { block };
+        let block = if last { block.used(&Place::local(1)).used(&deepest) } else { block };
+        let switch = block.read(&Place::local(2)).note(&Place::local(4)).switch(&Place::local(4));
+        let switch = if last { switch.arm(1, pair[1]) } else { switch };
+        function.write(pair[0], switch.otherwise(pair[1]));
+    }
+    function.write(labels[blocks - 1], Open::new().ret());
+    Input::new(&types, &function)
+}
+
+/// A chain in which each block uses a place and goes on.
+pub fn goto_chain(blocks: usize) -> Input {
+    let mut types = Types::new();
+    let int = types.opaque();
+    let wide = types.structure(&vec![int; 509]);
+    let mut function = Function::new(int, &[wide], &[]);
+    let labels = labels(&mut function, blocks);
+    for pair in labels.windows(2) {
+        function.write(pair[0], Open::new().used(&Place::local(1).field(0)).goto(pair[1]));
+    }
+    Input::new(&types, &function)
+}
+
+/// Accepted functions of 10 blocks from the generator.
+pub fn small(count: usize) -> Vec<Input> {
+    let mut rng = Rng::new(10);
+    let mut inputs = vec![];
+    while inputs.len() < count {
+        let case = random(&mut rng, Kind::Call(Call::Whole), Size::Normal, Some(0));
+        let case = case.expect("an accepted function");
+        if case.function[2] == 10 {
+            inputs.push(Input { types: case.types, function: case.function });
+        }
+    }
+    inputs
+}
+
+/// 256 blocks, 16,384 items, 64 join points, states of 501 nodes: 64 diamonds of 256 items, whose
+/// lower ends are the join points. One side of each uses parts of the locals, the other the locals
+/// whole, so that both folds and unfolds are recorded.
+pub fn large() -> Input {
+    const LOCALS: usize = 20;
+    const FIELDS: usize = 24;
+    let mut types = Types::new();
+    let int = types.opaque();
+    let wide = types.structure(&[int; FIELDS]);
+    let mut function = Function::new(int, &[wide; LOCALS], &[]);
+    let labels = labels(&mut function, MAX_BLOCKS);
+    // A use of a part is 3 items, of a local 2.
+    let part = |n: usize| Place::local(1 + (n % LOCALS) as u32).field((n * 7 % FIELDS) as u32);
+    let whole = |n: usize| Place::local(1 + (n % LOCALS) as u32);
+    for (at, diamond) in labels.chunks(4).enumerate() {
+        let &[head, left, right, tail] = diamond else { unreachable!("256 is 64 times 4") };
+        let block = (0..26).fold(Open::new(), |block, n| block.used(&part(at + n)));
+        function.write(head, block.switch_constant().arm(0, left).otherwise(right));
+        let block = (0..25).fold(Open::new(), |block, n| block.used(&part(2 * at + n)));
+        function.write(left, block.used(&whole(at)).used(&whole(at + 1)).goto(tail));
+        let block = (0..28).fold(Open::new(), |block, n| block.used(&whole(at + n)));
+        function.write(right, block.used(&part(at)).used(&part(at + 1)).goto(tail));
+        let block = (0..8).fold(Open::new(), |block, n| block.used(&part(at + n)));
+        let block = (0..3).fold(block, |block, n| block.used(&whole(at + 3 * n)));
+        let end = labels.get(4 * at + 4).map_or(block.clone().ret(), |&next| block.goto(next));
+        function.write(tail, end);
+    }
+    let input = Input::new(&types, &function);
+    assert_eq!(input.sizes(), (MAX_BLOCKS, MAX_ITEMS));
+    input
+}
+
+/// One block of at most so many items: uses of parts of four locals, of which the first four open them
+/// and the others change nothing.
+pub fn items(count: usize) -> Input {
+    let mut types = Types::new();
+    let int = types.opaque();
+    let pair = types.structure(&[int; 2]);
+    let mut function = Function::new(int, &[pair; 4], &[]);
+    let block = function.block();
+    let part = |n: usize| Place::local(1 + (n % 4) as u32).field((n / 4 % 2) as u32);
+    let used = (0..count / 3).fold(Open::new(), |block, n| block.used(&part(n)));
+    function.write(block, used.ret());
+    Input::new(&types, &function)
+}
+
+/// Many rounds: a line of 100 join points that lead back and forth, each of which opens a field of its
+/// own. What one opens goes back through all before it, and only then the next in the line is visited:
+/// over 5,000 visits.
+pub fn rounds() -> Input {
+    const POINTS: usize = 100;
+    let mut types = Types::new();
+    let int = types.opaque();
+    let inner = types.structure(&[int]);
+    let outer = types.structure(&[inner; POINTS]);
+    let mut function = Function::new(int, &[outer], &[]);
+    let labels = labels(&mut function, POINTS);
+    for (at, &label) in labels.iter().enumerate() {
+        let block = Open::new().used(&Place::local(1).field(at as u32).field(0));
+        let (back, on) = (labels[at.saturating_sub(1)], labels[(at + 1).min(POINTS - 1)]);
+        function.write(label, block.switch_constant().arm(0, back).otherwise(on));
+    }
+    Input::new(&types, &function)
+}
+
+/// 4,096 types with 14,322 parts, and a function that looks at few of them.
+pub fn many_types() -> Input {
+    let mut types = Types::new();
+    let int = types.opaque();
+    (0..3).for_each(|_| {
+        types.array();
+    });
+    let mut last = int;
+    for n in 0..682 {
+        let pointer = types.mut_ref(last);
+        let pair = types.structure(&[int, pointer, int, last, int, int, int]);
+        let variants = [types.variant(0, &[pair, int, int]), types.variant(1, &[int, int, int])];
+        let list = types.enumeration(&variants);
+        last =
+            if n % 2 == 0 { types.tuple(&[list, int, int, int, int]) } else { types.boxed(list) };
+    }
+    let mut function = Function::new(int, &[last], &[]);
+    let block = function.block();
+    function.write(block, Open::new().used(&Place::local(1)).ret());
+    let input = Input::new(&types, &function);
+    assert_eq!(input.types[..2], [MAX_TYPES as u32, 14_322]);
+    input
+}
+
+#[cfg(test)]
+mod tests {
+    use super::*;
+
+    /// Join points, and the most open nodes of a stored state.
+    fn stored(input: &Input) -> (usize, usize) {
+        let statements = hirvoksne::ghost_statements(&input.types, &input.function).unwrap();
+        let join_points = statements.join_points();
+        let open = |&block: &u32| {
+            let state = statements.stored(block).unwrap();
+            state.forms.iter().filter(|&&form| form != 0).count()
+        };
+        (join_points.len(), join_points.iter().map(open).max().unwrap_or(0))
+    }
+
+    /// 20 open locals of 24 fields, and the return place: 501 nodes.
+    #[test]
+    fn large_states() {
+        assert_eq!(stored(&large()), (64, 20));
+    }
+
+    /// One open struct with all its fields open: 202 nodes with the return place.
+    #[test]
+    fn rounds_reach_all() {
+        assert_eq!(stored(&rounds()), (100, 101));
+    }
+
+    /// 63 open structs of 8 fields, one of one field, and five locals.
+    #[test]
+    fn chains() {
+        assert_eq!(stored(&match_chain(256)), (1, 64));
+        assert_eq!(stored(&goto_chain(256)), (0, 0));
+    }
+
+    #[test]
+    fn others() {
+        assert_eq!(stored(&many_types()), (0, 0));
+        assert!(small(3).iter().all(|input| input.sizes().0 == 10));
+    }
+}

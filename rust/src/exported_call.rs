@@ -1,0 +1,51 @@
+//! The one call into the static library, and all that is `unsafe` here.
+
+#![allow(unsafe_code)]
+
+mod foreign {
+    extern "C" {
+        /// `crates/exports/src/lib.rt`. A slice is passed as its pointer and its length.
+        pub fn exports_ghost_statements(
+            types: *const u32,
+            types_len: usize,
+            fun: *const u32,
+            fun_len: usize,
+            forms: *mut u16,
+            forms_len: usize,
+            whats: *mut u16,
+            whats_len: usize,
+            out: *mut u32,
+            out_len: usize,
+        ) -> u32;
+    }
+}
+
+/// The words as they are lent; 0 or the refusal.
+pub fn exported(
+    types: &[u32],
+    function: &[u32],
+    forms: &mut [u16],
+    whats: &mut [u16],
+    out: &mut [u32],
+) -> u32 {
+    // SAFETY: What the call is owed: pointers that are aligned and hold as many words as their
+    // lengths say, that nobody else writes during the call, and of which nobody else reads the last
+    // three. References to slices are all that, those of length 0 too. There is no `requires`, so any
+    // words will do.
+    // What it owes is proved of its source: it reads and writes inside the slices alone, keeps no
+    // pointer, and ends. That it has enough stack is up to `run` in `stack.rs`.
+    unsafe {
+        foreign::exports_ghost_statements(
+            types.as_ptr(),
+            types.len(),
+            function.as_ptr(),
+            function.len(),
+            forms.as_mut_ptr(),
+            forms.len(),
+            whats.as_mut_ptr(),
+            whats.len(),
+            out.as_mut_ptr(),
+            out.len(),
+        )
+    }
+}

@@ -1,0 +1,115 @@
+//! Fold and unfold statements for a checked Rust function: at each point of it, which places to
+//! fold (to see as one value) and which to unfold (to see as their parts).
+//!
+//! This is a safe crate over a static library whose every function is proved: for any words that
+//! are handed in, the answer is the statement record that the definitions in `crates/model` give, or
+//! the refusal that they give; every run ends; and the statements of a function that is accepted can
+//! be carried out along any list of jumps, with each place folded where it is used. The wrapper
+//! itself is plain Rust, tested and not proved.
+//!
+//! ```
+//! let types = [2, 2, 0, 6, 0, 2, 0, 0]; // an opaque type, and a struct of two fields
+//! let function = [2, 0, 1, 6, 0, 1, 0, 0, 0, 2, 5, 0, 5, 11, 1, 0, 0, 1, 0, 0]; // uses _1.0, _1
+//! for statement in &hirvoksne::ghost_statements(&types, &function)? {
+//!     println!("{statement}"); // at 2 unfold _1, at 4 fold _1
+//! }
+//! # let statements = hirvoksne::ghost_statements(&types, &function)?;
+//! # assert_eq!(statements.to_string(), "at 2 unfold _1\nat 4 fold _1\n");
+//! # Ok::<(), hirvoksne::Refusal>(())
+//! ```
+//!
+//! Records are laid out as document 01 says. [`Types`] and [`Function`] write them; the example
+//! beside [`Function`] is the worked example of document 01.
+
+#![deny(unsafe_code)]
+
+mod exported_call;
+mod function;
+mod place;
+mod refusal;
+mod sizes;
+mod stack;
+mod statements;
+mod types;
+
+pub use function::{Block, Function, Label, Open, Read, Switch};
+pub use place::{Elem, Place};
+pub use refusal::Refusal;
+pub use stack::{CALLERS_BLOCKS, STACK};
+pub use statements::{read_record, Point, Statement, Statements, Stored, Verb, SHARE};
+pub use types::{Later, Pointer, Type, Types, Variant};
+
+use exported_call::exported;
+use sizes::Sizes;
+
+/// How much the statement buffer grows when it was too short.
+const GROWTH: usize = 4;
+
+/// The statements of a function, or why it is refused; never [`Refusal::ShortStore`], since the
+/// store and the statement buffer are made here, as large as they have to be.
+///
+/// A function of over [`CALLERS_BLOCKS`] blocks is run on a thread with [`STACK`] bytes of stack.
+///
+/// # Panics
+///
+/// If such a thread can't be had.
+pub fn ghost_statements(types: &[u32], function: &[u32]) -> Result<Statements, Refusal> {
+    let sizes = Sizes::of(function);
+    let store = sizes.join_points.len() * SHARE;
+    let mut forms = vec![0; store];
+    let mut whats = vec![0; store];
+    let mut record = vec![0; sizes.first_buffer().min(sizes.longest_record())];
+    stack::run(sizes.blocks, || loop {
+        let answer = exported(types, function, &mut forms, &mut whats, &mut record);
+        // The store is large enough, so it is the buffer that isn't.
+        let short = answer == Refusal::ShortStore.number();
+        if !short || record.len() >= sizes.longest_record() {
+            return counts(answer, &record);
+        }
+        record = vec![0; (record.len() * GROWTH).min(sizes.longest_record())];
+    })
+    .map(|(_, entries)| {
+        record.truncate(2 + 2 * entries);
+        record.shrink_to_fit();
+        let list = read_record(&record).expect("the contract: a statement record");
+        Statements { record, list, join_points: sizes.join_points, forms, whats }
+    })
+}
+
+/// The same over what the caller lends: 512 entries of each store array per join point, and a buffer
+/// for the statement record. Gives the counts of statements and entries. All that is lent is written
+/// to the last word, with zeros where nothing else stands, and after a refusal with zeros alone.
+///
+/// # Panics
+///
+/// As [`ghost_statements`].
+pub fn ghost_statements_into(
+    types: &[u32],
+    function: &[u32],
+    forms: &mut [u16],
+    whats: &mut [u16],
+    out: &mut [u32],
+) -> Result<(usize, usize), Refusal> {
+    let blocks = Sizes::of(function).blocks;
+    stack::run(blocks, || on_this_thread(types, function, forms, whats, out))
+}
+
+/// The same on the caller's thread, whatever its stack. A thread that has too little of it ends the
+/// process.
+pub fn on_this_thread(
+    types: &[u32],
+    function: &[u32],
+    forms: &mut [u16],
+    whats: &mut [u16],
+    out: &mut [u32],
+) -> Result<(usize, usize), Refusal> {
+    counts(exported(types, function, forms, whats, out), out)
+}
+
+/// The counts of statements and entries, which stand first in the record, or the refusal.
+fn counts(answer: u32, out: &[u32]) -> Result<(usize, usize), Refusal> {
+    match answer {
+        0 => Ok((out[0] as usize, out[1] as usize)),
+        number => Err(Refusal::from_number(number).expect("the contract: a refusal's number")),
+    }
+}

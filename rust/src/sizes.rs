@@ -1,0 +1,57 @@
+//! What the wrapper has to know of a function record before the call: any words at all.
+
+use crate::function::TARGET;
+
+const MAX_BLOCKS: u32 = 256;
+const MAX_ITEMS: u32 = 16384;
+
+/// A point has at most so many statements, and a statement so many entries.
+const POINT_STATEMENTS: usize = 512;
+const STATEMENT_ENTRIES: usize = 131;
+
+/// Of words that are no function record all is 0: they are refused before anything is lent.
+#[derive(Clone, PartialEq, Eq, Default, Debug)]
+pub struct Sizes {
+    pub blocks: usize,
+    pub items: usize,
+    /// In block order.
+    pub join_points: Vec<u32>,
+}
+
+impl Sizes {
+    pub fn of(function: &[u32]) -> Sizes {
+        Sizes::read(function).unwrap_or_default()
+    }
+
+    fn read(function: &[u32]) -> Option<Sizes> {
+        let &[locals, _, blocks, items, ..] = function else { return None };
+        if blocks > MAX_BLOCKS || items > MAX_ITEMS {
+            return None;
+        }
+        let (locals, blocks, items) = (locals as usize, blocks as usize, items as usize);
+        let ops_at = 4 + locals + 2 * blocks;
+        if function.len() != ops_at + 2 * items {
+            return None;
+        }
+        let (ops, args) = function[ops_at..].split_at(items);
+        let mut incoming = vec![0; blocks];
+        for (&op, &arg) in ops.iter().zip(args) {
+            if let (TARGET, Some(count)) = (op, incoming.get_mut(arg as usize)) {
+                *count += 1;
+            }
+        }
+        // Over one incoming target item, or the start block over none.
+        let joins = |&bb: &u32| incoming[bb as usize] > usize::from(bb != 0);
+        Some(Sizes { blocks, items, join_points: (0..blocks as u32).filter(joins).collect() })
+    }
+
+    /// Words of a statement buffer to begin with: one statement of a few elements per two items.
+    pub fn first_buffer(&self) -> usize {
+        256 + 8 * self.items
+    }
+
+    /// No statement record is longer: each item is a point, and so is the entry.
+    pub fn longest_record(&self) -> usize {
+        2 + 2 * STATEMENT_ENTRIES * POINT_STATEMENTS * (self.items + 1)
+    }
+}
