@@ -7,7 +7,7 @@ use std::thread;
 /// stack.
 pub const CALLERS_BLOCKS: usize = 32;
 
-/// The stack of the thread for more blocks, in bytes: over twice the 2,264 KB that the deepest chain
+/// The stack of the thread for more blocks, in bytes: over twice the 2,260 KB that the deepest chain
 /// takes, 256 blocks with a state of 511 nodes (`cargo run --release -p compare --bin stack` measures
 /// it).
 pub const STACK: usize = 5 << 20;

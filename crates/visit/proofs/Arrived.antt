@@ -9,13 +9,14 @@ use native.Mathlib.Omega.{arith}
 use lib.Dec.{leb}
 use lib.ListN.{length, set}
 use lib.Seq.{getD-set-same}
-use borrow.Author.Tests.{leb-true}
+use borrow.Author.Tests.{leb-true, le-leb}
 use Rattle.model.specs.Words.{word}
 use Rattle.model.specs.Answer.{Answer, refused, done}
 use Rattle.model.specs.Tree.{Forest, sizes, joins, flagss}
 use Rattle.base.specs.Tests.{split, clash}
 use Rattle.records.specs.Here.{Holds}
 use Rattle.laws.specs.Valid.{Valid, joins-valid}
+use Rattle.laws.specs.Join.{joins-self}
 use Rattle.laws.specs.Flags.{flags1-law}
 use Rattle.state.specs.Value.{value}
 use Rattle.state.specs.declared.nodes.State.{State}
@@ -100,3 +101,12 @@ module _ {Γ locals fs ws : List ℕ} {S E : Forest} {r : Joined} (j : JoinedIn 
         let t = joined-room e in
         let same : joins Γ false S E ≡ S = flags1-law false (f .fits) (g .fits) .0 (sym (t .3) ∙ d) in
         arrives-taken (t .0 ∙ ap (λ (x : Bool). done (joins Γ false S E, x)) d) (record { full = joined-stored (t .1) (k ∙ ap (λ (D : Forest). suc (sizes D)) (sym same)); count = refl; waiting = refl })
+
+-- where S is stored and the same arrives
+pub arrives-same : {Γ locals fs ws kept waits : List ℕ} {c : ℕ} {S : Forest} → Full Γ locals fs ws (word kept c) S
+    → Arrives Γ locals c kept waits (takes Γ (some S) S) fs ws kept waits 0
+unfolding takes
+arrives-same {Γ} {S = S} f =
+    let same : joins Γ false S S ≡ S = joins-self Γ false S in
+    let still : (flagss Γ false S S) .0 ≡ false = flags1-law false (f .valid .fits) (f .valid .fits) .1 same in
+    arrives-taken {w = (S, false)} (rw (same, still, le-leb (sizes S) 512 (f .valid .small)) refl) (record { full = f; count = refl; waiting = refl })

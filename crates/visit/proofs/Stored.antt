@@ -13,8 +13,10 @@ use Rattle.model.specs.State as Model
 use Rattle.model.specs.State.{most, zeros, encode, padded, locals-ok}
 use Rattle.model.specs.Function.{function-ok, local-types}
 use Rattle.base.specs.Tests.{and-left, and-right}
+use Rattle.base.specs.Kinds.{Known}
 use Rattle.records.specs.Here.{Holds}
 use Rattle.records.specs.Holds.{holds-few, holds-encode, encode-holds}
+use Rattle.records.specs.Decode.{holds-unique}
 use Rattle.records.specs.Shape.{encode-shaped, encode-nodes}
 use Rattle.records.specs.Pairs.{padded-take}
 use Rattle.laws.specs.Valid.{Valid}
@@ -90,3 +92,12 @@ module _ (Γ locals fs ws : List ℕ) (k : ℕ) where
   pub saved-fits : (o : Option Forest) → Saved Γ locals fs ws k o → (k - 1 ≤ 512) × (k - 1 ≤ length fs) × (k - 1 ≤ length ws)
   saved-fits none b = omega (arith, b .count)
   saved-fits (some S) f = let l = saved-long (some S) f in omega (arith, f .count, f .valid .small)
+
+  -- a state that is held, with these arrays and this count, is the one that is stored
+  pub saved-same : Known Γ → (o : Option Forest) → Saved Γ locals fs ws k o → {s : Model.State} {E : Forest} → Holds Γ locals s E
+      → k ≡ suc (s .nodes) → fs ≡ s .forms → ws ≡ s .whats → o ≡ some E
+  saved-same K none b h e p q = absurd (omega (arith, b .count))
+  saved-same K (some S) f {s} h e p q =
+      let n : (encode Γ S) .nodes ≡ s .nodes = omega (arith, encode-nodes Γ S, f .count) in
+      let same : encode Γ S ≡ s = λ i. record { forms = (sym (f .forms) ∙ p) i; whats = (sym (f .whats) ∙ q) i; nodes = n i } in
+      ap some (holds-unique K (subst (λ (t : Model.State). Holds Γ locals t S) same (encode-holds (f .valid .fits) (f .valid .shallow) (f .valid .small))) h)

@@ -1,7 +1,8 @@
 // Arrivals at a join point, whose share of the store is lent: `goto_join_point` of both passes.
 ghost use mathlib.Core.Path.{_≡_};
+ghost use mathlib.Core.Bool.{true};
 ghost use mathlib.Core.Option.{Option};
-ghost use Prim.Native.Nat.{_<_};
+ghost use Prim.Native.Nat.{suc, _<_};
 ghost use lib.ListN.{length};
 ghost use Rattle.model.specs.Words.{word};
 ghost use Rattle.model.specs.Tree.{Forest};
@@ -34,8 +35,41 @@ fn small(n: usize) -> u32
     (n % 4294967296) as u32
 }
 
-// `Infer::goto_join_point`: the state arrives at the block c: 0, or the refusal.
-pub fn arrive(
+// Are these words the same?
+fn same_words(a: &[u16], b: &[u16]) -> bool
+    requires { ⌜ length (now a) ≡ length (now b) ⌝ }
+    ensures { λ r. ⌜ (r ≡ true → now (a .entry) ≡ now (b .entry)) ⌝ }
+{
+    let n = a.len();
+    let mut i = 0;
+    while i < n {
+        if a[i] != b[i] {
+            return false;
+        }
+        i += 1;
+    }
+    true
+}
+
+// Is the state the one that stands in this share, whose count is k?
+fn stands(k: u32, s: State, forms: &[u16], whats: &[u16]) -> bool
+    requires { ⌜ (length (now forms) ≡ 512) × (length (now whats) ≡ 512) ⌝ }
+    ensures { λ r. ⌜ (r ≡ true → (k ≡ suc (s .nodes)) × (now (forms .entry) ≡ s .forms) × (now (whats .entry) ≡ s .whats)) ⌝ }
+{
+    if k == 0 {
+        return false;
+    }
+    if wide(k) - 1 != s.nodes {
+        return false;
+    }
+    if same_words(forms, &s.forms) {
+        return same_words(whats, &s.whats);
+    }
+    false
+}
+
+// The state is saved where none is stored, and joined with the one that is.
+fn merge(
     types: &[u32],
     offs: &[u32],
     fun: &[u32],
@@ -70,6 +104,32 @@ pub fn arrive(
         insert(waits, c);
     }
     0
+}
+
+// `Infer::goto_join_point`: the state arrives at the block c: 0, or the refusal. A state that is stored there already changes nothing.
+pub fn arrive(
+    types: &[u32],
+    offs: &[u32],
+    fun: &[u32],
+    kept: &mut [u32],
+    waits: &mut [u32],
+    c: usize,
+    s: State,
+    forms: &mut [u16],
+    whats: &mut [u16],
+) -> u32
+    requires { ⌜ Accepted (now types) (now offs) (now fun) ⌝ }
+    requires { ⌜ Stated (now types) (local-types (now fun)) s ⌝ }
+    requires { ⌜ (c < length (now kept)) × (c < length (now waits)) ⌝ }
+    requires { ⌜ ((k : Option Forest) × Saved (now types) (local-types (now fun)) (now forms) (now whats) (word (now kept) c) k) ⌝ }
+    ensures { λ r. ⌜ ((k : Option Forest) (E : Forest) → Saved (now (types .entry)) (local-types (now (fun .entry))) (now (forms .entry)) (now (whats .entry)) (word (now (kept .entry)) c) k → Holds (now (types .entry)) (local-types (now (fun .entry))) (value s) E → Arrives (now (types .entry)) (local-types (now (fun .entry))) c (now (kept .entry)) (now (waits .entry)) (takes (now (types .entry)) k E) (now (forms .exit)) (now (whats .exit)) (now (kept .exit)) (now (waits .exit)) r) ⌝ }
+    ensures lengths { λ r. ⌜ (length (now (kept .exit)) ≡ length (now (kept .entry))) × (length (now (waits .exit)) ≡ length (now (waits .entry))) × (length (now (forms .exit)) ≡ length (now (forms .entry))) × (length (now (whats .exit)) ≡ length (now (whats .entry))) ⌝ }
+{
+    let k = kept[c];
+    if stands(k, s, forms, whats) {
+        return 0;
+    }
+    merge(types, offs, fun, kept, waits, c, s, forms, whats)
 }
 
 // `Elaboration::goto_join_point`: the statements from the state to the stored one are recorded at the item i, or at the entry.
