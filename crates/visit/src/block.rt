@@ -241,7 +241,7 @@ pub fn basic_block(
     if op_of(fun, end - 1) == 11 {
         return Visit::Over(returned(types, offs, fun, end - 1, t, recording, out, q));
     }
-    leave(
+    terminator(
         types,
         offs,
         fun,
@@ -262,8 +262,8 @@ pub fn basic_block(
     )
 }
 
-// The block b is left by its targets, in the state s that its items leave. All arms of a match are tried first.
-fn leave(
+// The ender of the block b: it is left by its targets, in the state s that its items leave. All arms of a match are tried first.
+fn terminator(
     types: &[u32],
     offs: &[u32],
     fun: &[u32],

@@ -1,5 +1,5 @@
--- The proof of the cycle of calls {basic_block, goto, leave}. The measure is three times the number of blocks that may still be entered,
--- one more for `leave` and two for `basic_block`. What each ensures are the laws of `Steps`, `Entering` and `Leaving`. Assumes nothing.
+-- The proof of the cycle of calls {basic_block, goto, terminator}. The measure is three times the number of blocks that may still be entered,
+-- one more for `terminator` and two for `basic_block`. What each ensures are the laws of `Steps`, `Entering` and `Leaving`. Assumes nothing.
 use borrow.Author.Needs.{needs}
 use mathlib.Core.Path.{_≡_, refl, sym, ap, _∙_}
 use mathlib.Core.Bool.{false}
@@ -31,13 +31,13 @@ use borrow.Fn.Kinds.{In}
 use borrow.Fn.PlainCycle.{Measures, is, falls, and}
 use Rattle.visit.proofs.block.basic_block.Reads as basic-block
 use Rattle.visit.proofs.block.basic_block.Kinds as basic-block-kinds
-use Rattle.visit.proofs.block.+basic_block+goto+leave.Lts-basic_block as basic-block-lts
+use Rattle.visit.proofs.block.+basic_block+goto+terminator.Lts-basic_block as basic-block-lts
 use Rattle.visit.proofs.block.goto.Reads as goto
 use Rattle.visit.proofs.block.goto.Kinds as goto-kinds
-use Rattle.visit.proofs.block.+basic_block+goto+leave.Lts-goto as goto-lts
-use Rattle.visit.proofs.block.leave.Reads as leave
-use Rattle.visit.proofs.block.leave.Kinds as leave-kinds
-use Rattle.visit.proofs.block.+basic_block+goto+leave.Lts-leave as leave-lts
+use Rattle.visit.proofs.block.+basic_block+goto+terminator.Lts-goto as goto-lts
+use Rattle.visit.proofs.block.terminator.Reads as terminator
+use Rattle.visit.proofs.block.terminator.Kinds as terminator-kinds
+use Rattle.visit.proofs.block.+basic_block+goto+terminator.Lts-terminator as terminator-lts
 use Rattle.body.proofs.arms.plan_of.Reads as plan-of-reads
 use Rattle.body.proofs.arms.target_state.Reads as target-state-reads
 use Rattle.body.proofs.items.pass_items.Reads as pass-items-reads
@@ -48,8 +48,8 @@ use Rattle.mir.proofs.function.stop_of.Reads as stop-of-reads
 use Rattle.type_record.proofs.record.wide.Reads as wide-reads
 use Rattle.visit.proofs.block.meet.Reads as meet-reads
 use Rattle.visit.proofs.block.returned.Reads as returned-reads
-use Rattle.visit.proofs.block.+basic_block+goto+leave.{statement}
-use Rattle.visit.proofs.block.+basic_block+goto+leave.Tie.{close}
+use Rattle.visit.proofs.block.+basic_block+goto+terminator.{statement}
+use Rattle.visit.proofs.block.+basic_block+goto+terminator.Tie.{close}
 
 abbrev μ-basic-block : Measures 10 basic-block-kinds.ps ℕ
 μ-basic-block κs a = 3 * a .1 .1 .1 .1 .1 .1 .1 .1 .1 .1 .1 .0 + 2
@@ -57,15 +57,15 @@ abbrev μ-basic-block : Measures 10 basic-block-kinds.ps ℕ
 abbrev μ-goto : Measures 10 goto-kinds.ps ℕ
 μ-goto κs a = 3 * a .1 .1 .1 .1 .1 .1 .1 .1 .1 .1 .1 .0
 
-abbrev μ-leave : Measures 10 leave-kinds.ps ℕ
-μ-leave κs a = 3 * a .1 .1 .1 .1 .1 .1 .1 .1 .1 .1 .1 .0 + 1
+abbrev μ-terminator : Measures 10 terminator-kinds.ps ℕ
+μ-terminator κs a = 3 * a .1 .1 .1 .1 .1 .1 .1 .1 .1 .1 .1 .0 + 1
 
-abbrev leave-Inv-loop : leave-lts.InvT-loop
-leave-Inv-loop types offs fun points kept₀ visited waits₀ forms₀ whats₀ out₀ recording left b from end s p q₀ i₀ kept waits forms whats out q i =
+abbrev terminator-Inv-loop : terminator-lts.InvT-loop
+terminator-Inv-loop types offs fun points kept₀ visited waits₀ forms₀ whats₀ out₀ recording left b from end s p q₀ i₀ kept waits forms whats out q i =
     Onward types fun recording left b s p (arrays kept₀ visited waits₀ forms₀ whats₀) out₀ q₀ (arrays kept visited waits forms whats) out q i
 
-abbrev leave-μ-loop : leave-lts.MeasureT-loop
-leave-μ-loop types offs fun points kept₀ visited waits₀ forms₀ whats₀ out₀ recording left b from end s p q₀ i₀ kept waits forms whats out q i =
+abbrev terminator-μ-loop : terminator-lts.MeasureT-loop
+terminator-μ-loop types offs fun points kept₀ visited waits₀ forms₀ whats₀ out₀ recording left b from end s p q₀ i₀ kept waits forms whats out q i =
     end - i
 
 module _ (t : ℕ) where
@@ -81,20 +81,20 @@ module _ (t : ℕ) where
   abbrev goto-below : In 10 goto-kinds.ps
   goto-below = and 10 goto-kinds.ps (falls 10 goto-kinds.ps _<_ μ-goto t) goto.Pre
 
-  abbrev leave-at : In 10 leave-kinds.ps
-  leave-at = and 10 leave-kinds.ps (is 10 leave-kinds.ps μ-leave t) leave.Pre
+  abbrev terminator-at : In 10 terminator-kinds.ps
+  terminator-at = and 10 terminator-kinds.ps (is 10 terminator-kinds.ps μ-terminator t) terminator.Pre
 
-  abbrev leave-below : In 10 leave-kinds.ps
-  leave-below = and 10 leave-kinds.ps (falls 10 leave-kinds.ps _<_ μ-leave t) leave.Pre
+  abbrev terminator-below : In 10 terminator-kinds.ps
+  terminator-below = and 10 terminator-kinds.ps (falls 10 terminator-kinds.ps _<_ μ-terminator t) terminator.Pre
 
   abbrev basic-block-claims : basic-block-lts.Claims
-  basic-block-claims = (start-of-reads.Asked, start-of-reads.Learnt, stop-of-reads.Asked, stop-of-reads.Learnt, pass-items-reads.Asked, pass-items-reads.Learnt, op-of-reads.Asked, op-of-reads.Learnt, returned-reads.Asked, returned-reads.Learnt, leave-below, leave.Post)
+  basic-block-claims = (start-of-reads.Asked, start-of-reads.Learnt, stop-of-reads.Asked, stop-of-reads.Learnt, pass-items-reads.Asked, pass-items-reads.Learnt, op-of-reads.Asked, op-of-reads.Learnt, returned-reads.Asked, returned-reads.Learnt, terminator-below, terminator.Post)
 
   abbrev goto-claims : goto-lts.Claims
   goto-claims = (wide-reads.Asked, wide-reads.Learnt, meet-reads.Asked, meet-reads.Learnt, basic-block-below, basic-block.Post)
 
-  abbrev leave-claims : leave-lts.Claims
-  leave-claims = (plan-of-reads.Asked, plan-of-reads.Learnt, op-of-reads.Asked, op-of-reads.Learnt, target-state-reads.Asked, target-state-reads.Learnt, arg-of-reads.Asked, arg-of-reads.Learnt, wide-reads.Asked, wide-reads.Learnt, goto-below, goto.Post)
+  abbrev terminator-claims : terminator-lts.Claims
+  terminator-claims = (plan-of-reads.Asked, plan-of-reads.Learnt, op-of-reads.Asked, op-of-reads.Learnt, target-state-reads.Asked, target-state-reads.Learnt, arg-of-reads.Asked, arg-of-reads.Learnt, wide-reads.Asked, wide-reads.Learnt, goto-below, goto.Post)
 
   -- the block's last item is one of the record's
   last-inside : (c : basic-block-lts.After-q basic-block-claims basic-block-at basic-block.Post) → c .before .before .before .before .before .before .before .before .stop-of .result - 1 < nitems (c .before .before .before .before .before .before .before .before .before .before .before .before .before .before .before .before .before .before .before .before .args .fun .now)
@@ -157,8 +157,8 @@ module _ (t : ℕ) where
       enter-over (c .before .before .before .before .before .before .before .before .before .before .before .before .before .before .before .before .before .before .before .before .before .before .before .before .before .before .args .left) (p .1 .1 .1 .0) E m (formed-accepted (p .0 .formed)) u (G .lines) (ap (λ (k : ℕ). k - 1) e)
       (returns-is _ _ (rw e at (sym (c .before .before .before .before .before .op-of .ensures) ∙ c .before .before .before .before .if2 .taken))) R N (c .before .before .returned .ensures (w .0) (G .state))
 
-  basic-block-leave-requires : basic-block-lts.Need-leave-requires basic-block-claims basic-block-at basic-block.Post
-  basic-block-leave-requires c κs =
+  basic-block-terminator-requires : basic-block-lts.Need-terminator-requires basic-block-claims basic-block-at basic-block.Post
+  basic-block-terminator-requires c κs =
       let p = c .before .before .before .before .before .before .before .before .before .before .before .before .before .before .before .before .before .before .before .before .before .before .before .before .before .before .before .pre .1 in
       let o = p .1 .1 .0 in
       let r = c .before .before .before .before .before .before .before .before .before .before .before .before .before .before .before .before .before .before .before .before .before .before .before .before .before .before .before .args .recording in
@@ -199,7 +199,7 @@ module _ (t : ℕ) where
       let e = c .before .before .before .before .before .before .before .before .before .before .before .before .before .before .before .before .before .before .before .before .before .before .before .before .before .before .stop-of .ensures in
       enter-leave (c .before .before .before .before .before .before .before .before .before .before .before .before .before .before .before .before .before .before .before .before .before .before .before .before .before .before .before .before .before .before .before .before .before .before .before .before .before .before .args .left) (p .1 .1 .1 .0) E m (formed-accepted (p .0 .formed)) u (G .lines)
       (returns-not _ _ (λ d. c .before .before .before .before .before .before .before .before .before .before .before .before .before .before .before .before .if2 .left (c .before .before .before .before .before .before .before .before .before .before .before .before .before .before .before .before .before .op-of .ensures ∙ rw e d)))
-      (c .before .before .before .before .before .before .before .before .before .before .leave .ensures (telling r (w .1) m) (w .0) (told-remembers r (w .1) R) (spoken-told N (G .lines)) (G .state))
+      (c .before .before .before .before .before .before .before .before .before .before .terminator .ensures (telling r (w .1) m) (w .0) (told-remembers r (w .1) R) (spoken-told N (G .lines)) (G .state))
 
   goto-mul-wide : goto-lts.Need-mul-wide goto-claims goto-at goto.Post
   goto-mul-wide c = record { fits = omega (arith, c .before .before .before .before .before .before .before .before .before .before .pre .1 .1 .1 .1 .0 .1, c .before .before .before .before .before .before .before .before .before .before .pre .1 .0 .formed .laid .most-blocks) }
@@ -280,17 +280,17 @@ module _ (t : ℕ) where
       (rw z at (c .before .before .before .before .before .before .before .before .before .before .basic-block .ensures m E R N H))
 
   -- the item at hand is one of the block
-  item-holds : (c : leave-lts.In-loop leave-claims leave-at leave.Post leave-Inv-loop leave-μ-loop) → In-block (c .before .before .before .before .before .before .before .before .before .before .before .before .before .before .args .fun .now) (c .before .before .before .before .before .before .before .before .before .before .before .before .before .before .args .b) (c .before .loop .i)
+  item-holds : (c : terminator-lts.In-loop terminator-claims terminator-at terminator.Post terminator-Inv-loop terminator-μ-loop) → In-block (c .before .before .before .before .before .before .before .before .before .before .before .before .before .before .args .fun .now) (c .before .before .before .before .before .before .before .before .before .before .before .before .before .before .args .b) (c .before .loop .i)
   item-holds c =
       let p = c .before .before .before .before .before .before .before .before .before .before .before .before .before .before .pre .1 in
       record { block = p .1 .1 .1 .0; low = c .before .loop .inv .low; high = omega (arith, c .loop-test .taken, p .1 .1 .1 .1 .0 .1) }
 
   -- and of the record
-  item-inside : (c : leave-lts.In-loop leave-claims leave-at leave.Post leave-Inv-loop leave-μ-loop) → c .before .loop .i < nitems (c .before .before .before .before .before .before .before .before .before .before .before .before .before .before .args .fun .now)
+  item-inside : (c : terminator-lts.In-loop terminator-claims terminator-at terminator.Post terminator-Inv-loop terminator-μ-loop) → c .before .loop .i < nitems (c .before .before .before .before .before .before .before .before .before .before .before .before .before .before .args .fun .now)
   item-inside c = omega (arith, (item-holds c) .high, stop-inside (formed-accepted (c .before .before .before .before .before .before .before .before .before .before .before .before .before .before .pre .1 .0 .formed)) (c .before .before .before .before .before .before .before .before .before .before .before .before .before .before .args .b))
 
   -- the next target
-  next : (c : leave-lts.Then1 leave-claims leave-at leave.Post leave-Inv-loop leave-μ-loop) → let a = c .before .before .before .before .before .before .before .before .before .before .before .before .before .before .before .before .args in let l = c .before .before .before .loop in
+  next : (c : terminator-lts.Then1 terminator-claims terminator-at terminator.Post terminator-Inv-loop terminator-μ-loop) → let a = c .before .before .before .before .before .before .before .before .before .before .before .before .before .before .before .before .args in let l = c .before .before .before .loop in
       (m : Memory) (E : Forest) → Remembers (a .types .now) (a .fun .now) m (arrays (a .kept .now) (a .visited .now) (a .waits .now) (a .forms .now) (a .whats .now))
       → Spoken (a .fun .now) (a .recording) (m .lines) (a .out .now) (a .o) → Holds (a .types .now) (local-types (a .fun .now)) (value (a .s)) E
       → (L : Left (a .types .now) (a .fun .now) (a .recording) (a .left) (a .b) (c .before .before .before .before .before .plan-of .result) E m (arrays (a .kept .now) (a .visited .now) (a .waits .now) (a .forms .now) (a .whats .now)) (a .out .now) (l .i)
@@ -300,20 +300,20 @@ module _ (t : ℕ) where
       let L = c .before .before .before .loop .inv .left m E R N H in
       (L, left-next L ((item-holds (c .before .before)) .high) (sym (c .before .op-of .ensures) ∙ c .if1 .taken))
 
-  leave-plan-of-requires : leave-lts.Need-plan-of-requires leave-claims leave-at leave.Post leave-Inv-loop leave-μ-loop
-  leave-plan-of-requires c κs =
+  terminator-plan-of-requires : terminator-lts.Need-plan-of-requires terminator-claims terminator-at terminator.Post terminator-Inv-loop terminator-μ-loop
+  terminator-plan-of-requires c κs =
       let p = c .before .before .before .before .before .before .before .before .before .before .pre .1 in
       (p .0, (p .1 .1 .1 .0, (p .1 .1 .1 .1 .0, p .1 .1 .1 .1 .1)))
 
-  leave-enum-known-p : leave-lts.Need-enum-known-p leave-claims leave-at leave.Post leave-Inv-loop leave-μ-loop
-  leave-enum-known-p c = search needs
+  terminator-enum-known-p : terminator-lts.Need-enum-known-p terminator-claims terminator-at terminator.Post terminator-Inv-loop terminator-μ-loop
+  terminator-enum-known-p c = search needs
 
-  leave-returns : leave-lts.Need-returns leave-claims leave-at leave.Post leave-Inv-loop leave-μ-loop
-  leave-returns c = λ m E R N H.
+  terminator-returns : terminator-lts.Need-returns terminator-claims terminator-at terminator.Post terminator-Inv-loop terminator-μ-loop
+  terminator-returns c = λ m E R N H.
       visits-refused (rw ((c .before .before .before .plan-of .ensures E H) .refuses _ (c .before .p .given .1)) refl) (alike-same _) refl
 
-  leave-loop-holds : leave-lts.Need-loop-holds leave-claims leave-at leave.Post leave-Inv-loop leave-μ-loop
-  leave-loop-holds c =
+  terminator-loop-holds : terminator-lts.Need-loop-holds terminator-claims terminator-at terminator.Post terminator-Inv-loop terminator-μ-loop
+  terminator-loop-holds c =
       let p = c .before .before .before .before .before .before .before .before .before .before .before .before .pre .1 in
       let z = p .1 .1 .1 .1 .0 .0 in
       let l = p .1 .1 .1 .0 in
@@ -325,11 +325,11 @@ module _ (t : ℕ) where
         left = λ m E R N H. rw z (left-start l (c .before .plan-of .ensures E H) (λ k e. ⊎-elim (λ d. omega (arith, rw e at d)) (λ d. omega (arith, rw e at d)) (c .match .keys2)) R N);
       }
 
-  leave-op-of-requires : leave-lts.Need-op-of-requires leave-claims leave-at leave.Post leave-Inv-loop leave-μ-loop
-  leave-op-of-requires c κs = (c .before .before .before .before .before .before .before .before .before .before .before .before .before .before .pre .1 .0 .formed .laid, item-inside c)
+  terminator-op-of-requires : terminator-lts.Need-op-of-requires terminator-claims terminator-at terminator.Post terminator-Inv-loop terminator-μ-loop
+  terminator-op-of-requires c κs = (c .before .before .before .before .before .before .before .before .before .before .before .before .before .before .pre .1 .0 .formed .laid, item-inside c)
 
-  leave-target-state-requires : leave-lts.Need-target-state-requires leave-claims leave-at leave.Post leave-Inv-loop leave-μ-loop
-  leave-target-state-requires c κs =
+  terminator-target-state-requires : terminator-lts.Need-target-state-requires terminator-claims terminator-at terminator.Post terminator-Inv-loop terminator-μ-loop
+  terminator-target-state-requires c κs =
       let p = c .before .before .before .before .before .before .before .before .before .before .before .before .before .before .before .before .pre .1 in
       let (L, N) = next c (p .1 .1 .0 .memory) (p .1 .1 .1 .1 .1 .state) (p .1 .1 .0 .is) (p .1 .1 .0 .spoken) (p .1 .1 .1 .1 .1 .holds) in
       let P = c .before .before .before .before .before .plan-of .ensures _ (p .1 .1 .1 .1 .1 .holds) in (
@@ -350,14 +350,14 @@ module _ (t : ℕ) where
         ),
       )
 
-  leave-arg-of-requires : leave-lts.Need-arg-of-requires leave-claims leave-at leave.Post leave-Inv-loop leave-μ-loop
-  leave-arg-of-requires c κs = (c .before .before .before .before .before .before .before .before .before .before .before .before .before .before .before .before .before .pre .1 .0 .formed .laid, item-inside (c .before .before .before))
+  terminator-arg-of-requires : terminator-lts.Need-arg-of-requires terminator-claims terminator-at terminator.Post terminator-Inv-loop terminator-μ-loop
+  terminator-arg-of-requires c κs = (c .before .before .before .before .before .before .before .before .before .before .before .before .before .before .before .before .before .pre .1 .0 .formed .laid, item-inside (c .before .before .before))
 
-  leave-wide-requires : leave-lts.Need-wide-requires leave-claims leave-at leave.Post leave-Inv-loop leave-μ-loop
-  leave-wide-requires c κs = search needs
+  terminator-wide-requires : terminator-lts.Need-wide-requires terminator-claims terminator-at terminator.Post terminator-Inv-loop terminator-μ-loop
+  terminator-wide-requires c κs = search needs
 
-  leave-goto-requires : leave-lts.Need-goto-requires leave-claims leave-at leave.Post leave-Inv-loop leave-μ-loop
-  leave-goto-requires c κs =
+  terminator-goto-requires : terminator-lts.Need-goto-requires terminator-claims terminator-at terminator.Post terminator-Inv-loop terminator-μ-loop
+  terminator-goto-requires c κs =
       let p = c .before .before .before .before .before .before .before .before .before .before .before .before .before .before .before .before .before .before .before .before .before .before .before .before .pre .1 in
       let h = p .1 .1 .1 .1 .1 in
       let (L, N) = next (c .before .before .before .before .before .before .before .before) (p .1 .1 .0 .memory) (h .state) (p .1 .1 .0 .is) (p .1 .1 .0 .spoken) (h .holds) in
@@ -378,41 +378,41 @@ module _ (t : ℕ) where
         ),
       )
 
-  leave-enum-known-v : leave-lts.Need-enum-known-v leave-claims leave-at leave.Post leave-Inv-loop leave-μ-loop
-  leave-enum-known-v c = search needs
+  terminator-enum-known-v : terminator-lts.Need-enum-known-v terminator-claims terminator-at terminator.Post terminator-Inv-loop terminator-μ-loop
+  terminator-enum-known-v c = search needs
 
-  leave-enum-known-v-2 : leave-lts.Need-enum-known-v-2 leave-claims leave-at leave.Post leave-Inv-loop leave-μ-loop
-  leave-enum-known-v-2 c = search needs
+  terminator-enum-known-v-2 : terminator-lts.Need-enum-known-v-2 terminator-claims terminator-at terminator.Post terminator-Inv-loop terminator-μ-loop
+  terminator-enum-known-v-2 c = search needs
 
-  leave-same-length : leave-lts.Need-same-length leave-claims leave-at leave.Post leave-Inv-loop leave-μ-loop
-  leave-same-length c = c .before .before .before .before .before .before .before .before .before .before .before .before .before .goto .kept .1 .1 .1 .1 .0 ∙ c .before .before .before .before .before .before .before .before .before .before .before .before .before .before .before .before .before .before .before .before .before .before .before .before .before .loop .inv .alike .kept
+  terminator-same-length : terminator-lts.Need-same-length terminator-claims terminator-at terminator.Post terminator-Inv-loop terminator-μ-loop
+  terminator-same-length c = c .before .before .before .before .before .before .before .before .before .before .before .before .before .goto .kept .1 .1 .1 .1 .0 ∙ c .before .before .before .before .before .before .before .before .before .before .before .before .before .before .before .before .before .before .before .before .before .before .before .before .before .loop .inv .alike .kept
 
-  leave-same-length-2 : leave-lts.Need-same-length-2 leave-claims leave-at leave.Post leave-Inv-loop leave-μ-loop
-  leave-same-length-2 c = c .before .before .before .before .before .before .before .before .before .before .before .before .before .goto .kept .1 .1 .1 .1 .1 .1 .0 ∙ c .before .before .before .before .before .before .before .before .before .before .before .before .before .before .before .before .before .before .before .before .before .before .before .before .before .loop .inv .alike .waits
+  terminator-same-length-2 : terminator-lts.Need-same-length-2 terminator-claims terminator-at terminator.Post terminator-Inv-loop terminator-μ-loop
+  terminator-same-length-2 c = c .before .before .before .before .before .before .before .before .before .before .before .before .before .goto .kept .1 .1 .1 .1 .1 .1 .0 ∙ c .before .before .before .before .before .before .before .before .before .before .before .before .before .before .before .before .before .before .before .before .before .before .before .before .before .loop .inv .alike .waits
 
-  leave-same-length-3 : leave-lts.Need-same-length-3 leave-claims leave-at leave.Post leave-Inv-loop leave-μ-loop
-  leave-same-length-3 c = c .before .before .before .before .before .before .before .before .before .before .before .before .before .goto .kept .1 .1 .1 .1 .1 .1 .1 .0 ∙ c .before .before .before .before .before .before .before .before .before .before .before .before .before .before .before .before .before .before .before .before .before .before .before .before .before .loop .inv .alike .forms
+  terminator-same-length-3 : terminator-lts.Need-same-length-3 terminator-claims terminator-at terminator.Post terminator-Inv-loop terminator-μ-loop
+  terminator-same-length-3 c = c .before .before .before .before .before .before .before .before .before .before .before .before .before .goto .kept .1 .1 .1 .1 .1 .1 .1 .0 ∙ c .before .before .before .before .before .before .before .before .before .before .before .before .before .before .before .before .before .before .before .before .before .before .before .before .before .loop .inv .alike .forms
 
-  leave-same-length-4 : leave-lts.Need-same-length-4 leave-claims leave-at leave.Post leave-Inv-loop leave-μ-loop
-  leave-same-length-4 c = c .before .before .before .before .before .before .before .before .before .before .before .before .before .goto .kept .1 .1 .1 .1 .1 .1 .1 .1 .0 ∙ c .before .before .before .before .before .before .before .before .before .before .before .before .before .before .before .before .before .before .before .before .before .before .before .before .before .loop .inv .alike .whats
+  terminator-same-length-4 : terminator-lts.Need-same-length-4 terminator-claims terminator-at terminator.Post terminator-Inv-loop terminator-μ-loop
+  terminator-same-length-4 c = c .before .before .before .before .before .before .before .before .before .before .before .before .before .goto .kept .1 .1 .1 .1 .1 .1 .1 .1 .0 ∙ c .before .before .before .before .before .before .before .before .before .before .before .before .before .before .before .before .before .before .before .before .before .before .before .before .before .loop .inv .alike .whats
 
-  leave-same-length-5 : leave-lts.Need-same-length-5 leave-claims leave-at leave.Post leave-Inv-loop leave-μ-loop
-  leave-same-length-5 c = c .before .before .before .before .before .before .before .before .before .before .before .before .before .goto .kept .1 .1 .1 .1 .1 .1 .1 .1 .1 .0 ∙ c .before .before .before .before .before .before .before .before .before .before .before .before .before .before .before .before .before .before .before .before .before .before .before .before .before .loop .inv .same
+  terminator-same-length-5 : terminator-lts.Need-same-length-5 terminator-claims terminator-at terminator.Post terminator-Inv-loop terminator-μ-loop
+  terminator-same-length-5 c = c .before .before .before .before .before .before .before .before .before .before .before .before .before .goto .kept .1 .1 .1 .1 .1 .1 .1 .1 .1 .0 ∙ c .before .before .before .before .before .before .before .before .before .before .before .before .before .before .before .before .before .before .before .before .before .before .before .before .before .loop .inv .same
 
-  leave-returns-2 : leave-lts.Need-returns-2 leave-claims leave-at leave.Post leave-Inv-loop leave-μ-loop
-  leave-returns-2 c = λ m E R M H.
+  terminator-returns-2 : terminator-lts.Need-returns-2 terminator-claims terminator-at terminator.Post terminator-Inv-loop terminator-μ-loop
+  terminator-returns-2 c = λ m E R M H.
       let (L, N) = next (c .before .before .before .before .before .before .before .before .before .before .before .before .before .before .before .before .before .before .before .before .before .before) m E R M H in
       let k = c .before .before .before .before .before .before .before .before .before .before .before .before .before .before .before .before .before .before .before .wide .ensures ∙ c .before .before .before .before .before .before .before .before .before .before .before .before .before .before .before .before .before .before .before .before .arg-of .ensures in
       left-refused L N (rw (k, c .before .v2 .given .1) at (c .before .before .before .before .before .before .before .before .before .before .before .before .before .goto .ensures (L .memory) (N .state) (L .is) (L .spoken) (c .before .before .before .before .before .before .before .before .before .before .before .before .before .before .before .before .before .before .before .before .before .target-state .ensures E (N .state) H (N .by))))
 
-  leave-add-i : leave-lts.Need-add-i leave-claims leave-at leave.Post leave-Inv-loop leave-μ-loop
-  leave-add-i c = record { fits = omega (arith, item-inside (c .before .before), c .before .before .before .before .before .before .before .before .before .before .before .before .before .before .before .before .pre .1 .0 .formed .laid .most-items) }
+  terminator-add-i : terminator-lts.Need-add-i terminator-claims terminator-at terminator.Post terminator-Inv-loop terminator-μ-loop
+  terminator-add-i c = record { fits = omega (arith, item-inside (c .before .before), c .before .before .before .before .before .before .before .before .before .before .before .before .before .before .before .before .pre .1 .0 .formed .laid .most-items) }
 
-  leave-loop-less : leave-lts.Need-loop-less leave-claims leave-at leave.Post leave-Inv-loop leave-μ-loop
-  leave-loop-less c = omega (arith, c .before .before .loop-test .taken)
+  terminator-loop-less : terminator-lts.Need-loop-less terminator-claims terminator-at terminator.Post terminator-Inv-loop terminator-μ-loop
+  terminator-loop-less c = omega (arith, c .before .before .loop-test .taken)
 
-  leave-loop-again : leave-lts.Need-loop-again leave-claims leave-at leave.Post leave-Inv-loop leave-μ-loop
-  leave-loop-again c =
+  terminator-loop-again : terminator-lts.Need-loop-again terminator-claims terminator-at terminator.Post terminator-Inv-loop terminator-μ-loop
+  terminator-loop-again c =
       let a = c .before .before .before .before .before .before .before .before .before .before .before .before .before .before .before .before .args in
       let I = c .before .before .before .loop .inv in
       let h = (item-holds (c .before .before)) .high in
@@ -442,29 +442,29 @@ module _ (t : ℕ) where
       }))
       (c .if1 .came)
 
-  leave-same-length-6 : leave-lts.Need-same-length-6 leave-claims leave-at leave.Post leave-Inv-loop leave-μ-loop
-  leave-same-length-6 c = search needs
+  terminator-same-length-6 : terminator-lts.Need-same-length-6 terminator-claims terminator-at terminator.Post terminator-Inv-loop terminator-μ-loop
+  terminator-same-length-6 c = search needs
 
-  leave-same-length-7 : leave-lts.Need-same-length-7 leave-claims leave-at leave.Post leave-Inv-loop leave-μ-loop
-  leave-same-length-7 c = search needs
+  terminator-same-length-7 : terminator-lts.Need-same-length-7 terminator-claims terminator-at terminator.Post terminator-Inv-loop terminator-μ-loop
+  terminator-same-length-7 c = search needs
 
-  leave-same-length-8 : leave-lts.Need-same-length-8 leave-claims leave-at leave.Post leave-Inv-loop leave-μ-loop
-  leave-same-length-8 c = search needs
+  terminator-same-length-8 : terminator-lts.Need-same-length-8 terminator-claims terminator-at terminator.Post terminator-Inv-loop terminator-μ-loop
+  terminator-same-length-8 c = search needs
 
-  leave-same-length-9 : leave-lts.Need-same-length-9 leave-claims leave-at leave.Post leave-Inv-loop leave-μ-loop
-  leave-same-length-9 c = search needs
+  terminator-same-length-9 : terminator-lts.Need-same-length-9 terminator-claims terminator-at terminator.Post terminator-Inv-loop terminator-μ-loop
+  terminator-same-length-9 c = search needs
 
-  leave-same-length-10 : leave-lts.Need-same-length-10 leave-claims leave-at leave.Post leave-Inv-loop leave-μ-loop
-  leave-same-length-10 c = search needs
+  terminator-same-length-10 : terminator-lts.Need-same-length-10 terminator-claims terminator-at terminator.Post terminator-Inv-loop terminator-μ-loop
+  terminator-same-length-10 c = search needs
 
-  leave-returns-3 : leave-lts.Need-returns-3 leave-claims leave-at leave.Post leave-Inv-loop leave-μ-loop
-  leave-returns-3 c = λ m E R N H.
+  terminator-returns-3 : terminator-lts.Need-returns-3 terminator-claims terminator-at terminator.Post terminator-Inv-loop terminator-μ-loop
+  terminator-returns-3 c = λ m E R N H.
       let I = c .before .loop .inv in
       left-end (I .left m E R N H) (omega (arith, c .loop-test .left, c .before .before .before .before .before .before .before .before .before .before .before .before .before .before .pre .1 .1 .1 .1 .1 .0 .1))
 
-pub +basic-block+goto+leave-spec : {M : Type 1} → statement M
-+basic-block+goto+leave-spec =
-    close μ-basic-block μ-goto μ-leave
-    (λ t. basic-block-lts.spec (basic-block-claims t) (basic-block-at t) basic-block.Post (basic-block-start-of-requires t) (basic-block-stop-of-requires t) (basic-block-pass-items-requires t) (basic-block-same-length t) (basic-block-returns t) (basic-block-sub-op-of t) (basic-block-op-of-requires t) (basic-block-sub-returned t) (basic-block-returned-requires t) (basic-block-same-length-2 t) (basic-block-returns-2 t) (basic-block-leave-requires t) (basic-block-same-length-3 t) (basic-block-same-length-4 t) (basic-block-same-length-5 t) (basic-block-same-length-6 t) (basic-block-same-length-7 t) (basic-block-returns-3 t))
+pub +basic-block+goto+terminator-spec : {M : Type 1} → statement M
++basic-block+goto+terminator-spec =
+    close μ-basic-block μ-goto μ-terminator
+    (λ t. basic-block-lts.spec (basic-block-claims t) (basic-block-at t) basic-block.Post (basic-block-start-of-requires t) (basic-block-stop-of-requires t) (basic-block-pass-items-requires t) (basic-block-same-length t) (basic-block-returns t) (basic-block-sub-op-of t) (basic-block-op-of-requires t) (basic-block-sub-returned t) (basic-block-returned-requires t) (basic-block-same-length-2 t) (basic-block-returns-2 t) (basic-block-terminator-requires t) (basic-block-same-length-3 t) (basic-block-same-length-4 t) (basic-block-same-length-5 t) (basic-block-same-length-6 t) (basic-block-same-length-7 t) (basic-block-returns-3 t))
     (λ t. goto-lts.spec (goto-claims t) (goto-at t) goto.Post (goto-mul-wide t) (goto-shared-slice-read-wide t) (goto-wide-requires t) (goto-meet-requires t) (goto-same-length t) (goto-same-length-2 t) (goto-same-length-3 t) (goto-same-length-4 t) (goto-same-length-5 t) (goto-returns t) (goto-returns-2 t) (goto-sub-basic-block t) (goto-basic-block-requires t) (goto-same-length-6 t) (goto-same-length-7 t) (goto-same-length-8 t) (goto-same-length-9 t) (goto-same-length-10 t) (goto-returns-3 t))
-    (λ t. leave-lts.spec (leave-claims t) (leave-at t) leave.Post leave-Inv-loop leave-μ-loop (leave-plan-of-requires t) (leave-enum-known-p t) (leave-returns t) (leave-loop-holds t) (leave-op-of-requires t) (leave-target-state-requires t) (leave-arg-of-requires t) (leave-wide-requires t) (leave-goto-requires t) (leave-enum-known-v t) (leave-enum-known-v-2 t) (leave-same-length t) (leave-same-length-2 t) (leave-same-length-3 t) (leave-same-length-4 t) (leave-same-length-5 t) (leave-returns-2 t) (leave-add-i t) (leave-loop-less t) (leave-loop-again t) (leave-same-length-6 t) (leave-same-length-7 t) (leave-same-length-8 t) (leave-same-length-9 t) (leave-same-length-10 t) (leave-returns-3 t))
+    (λ t. terminator-lts.spec (terminator-claims t) (terminator-at t) terminator.Post terminator-Inv-loop terminator-μ-loop (terminator-plan-of-requires t) (terminator-enum-known-p t) (terminator-returns t) (terminator-loop-holds t) (terminator-op-of-requires t) (terminator-target-state-requires t) (terminator-arg-of-requires t) (terminator-wide-requires t) (terminator-goto-requires t) (terminator-enum-known-v t) (terminator-enum-known-v-2 t) (terminator-same-length t) (terminator-same-length-2 t) (terminator-same-length-3 t) (terminator-same-length-4 t) (terminator-same-length-5 t) (terminator-returns-2 t) (terminator-add-i t) (terminator-loop-less t) (terminator-loop-again t) (terminator-same-length-6 t) (terminator-same-length-7 t) (terminator-same-length-8 t) (terminator-same-length-9 t) (terminator-same-length-10 t) (terminator-returns-3 t))
