@@ -19,3 +19,5 @@ pub mod Tries
 pub mod Plans
 -- the block of a match
 pub mod Matches
+-- a state and its copy
+pub mod Copied

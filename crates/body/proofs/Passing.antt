@@ -21,8 +21,7 @@ use Rattle.statements.specs.Kept.{Counted, Puts}
 use Rattle.statements.specs.declared.Out.{Out}
 use Rattle.statements.proofs.Puts.{puts-none, puts-then}
 use Rattle.body.specs.Given.{Stated}
-use Rattle.body.specs.Uses.{Tells, Gone, Passes}
-use Rattle.body.specs.declared.items.Passed.{Passed}
+use Rattle.body.specs.Uses.{Tells, Gone, Passes, After}
 use Rattle.body.proofs.Runs.{Run, behind}
 
 -- WHAT IS RECORDED
@@ -62,12 +61,12 @@ module _ {Γ fn : List ℕ} {recording : Bool} {out : List ℕ} {o : Out} where
   -- A RUN
 
   -- a run that is refused
-  pub refused-passes : {out′ : List ℕ} {a : Answer Run} {r : Passed} (n : ℕ) → a ≡ refused n → n ≢ 0 → r .refusal ≡ n
+  pub refused-passes : {out′ : List ℕ} {a : Answer Run} {r : After} (n : ℕ) → a ≡ refused n → n ≢ 0 → r .refusal ≡ n
       → length out′ ≡ length out → Passes Γ fn recording out o out′ a r
   refused-passes n e z d s = record { same = s; denied = λ k f. (cc, λ y. z (cc)); gone = λ w f. clash (cc) }
 
   -- a run that is not
-  pub done-passes : {out′ : List ℕ} {a : Answer Run} {r : Passed} {w : Run} → a ≡ done w
+  pub done-passes : {out′ : List ℕ} {a : Answer Run} {r : After} {w : Run} → a ≡ done w
       → Gone Γ fn recording out o out′ w r → Passes Γ fn recording out o out′ a r
   done-passes {out′} {a} {r} {w} e G = record {
     same = tells-same (G .lines);
@@ -76,14 +75,14 @@ module _ {Γ fn : List ℕ} {recording : Bool} {out : List ℕ} {o : Out} where
   }
 
   -- the code says that it is not
-  pub passes-done : {out′ : List ℕ} {a : Answer Run} {r : Passed} → Passes Γ fn recording out o out′ a r → r .refusal ≡ 0
+  pub passes-done : {out′ : List ℕ} {a : Answer Run} {r : After} → Passes Γ fn recording out o out′ a r → r .refusal ≡ 0
       → (w : Run) × (a ≡ done w) × Gone Γ fn recording out o out′ w r
   passes-done {a = a} P z = split-answer a
       (λ n e. absurd (P .denied n e .1 (sym (P .denied n e .0) ∙ z)))
       (λ w e. (w, e, P .gone w e))
 
   -- or that it is
-  pub passes-refused : {out′ : List ℕ} {a : Answer Run} {r : Passed} → Passes Γ fn recording out o out′ a r → (r .refusal ≡ 0 → ⊥)
+  pub passes-refused : {out′ : List ℕ} {a : Answer Run} {r : After} → Passes Γ fn recording out o out′ a r → (r .refusal ≡ 0 → ⊥)
       → a ≡ refused (r .refusal)
   passes-refused {a = a} P z = split-answer a
       (λ n e. e ∙ ap refused (sym (P .denied n e .0)))
@@ -92,7 +91,7 @@ module _ {Γ fn : List ℕ} {recording : Bool} {out : List ℕ} {o : Out} where
   -- TWO RUNS
 
   -- a first run, then another
-  pub passes-then : {out₁ out₂ : List ℕ} {a : Answer Run} {f : Forest → Answer Run} {r₁ r₂ : Passed}
+  pub passes-then : {out₁ out₂ : List ℕ} {a : Answer Run} {f : Forest → Answer Run} {r₁ r₂ : After}
       → Passes Γ fn recording out o out₁ a r₁ → r₁ .refusal ≡ 0
       → ((D : Forest) → Holds Γ (local-types fn) (value (r₁ .state)) D → Passes Γ fn recording out₁ (r₁ .out) out₂ (f D) r₂)
       → Passes Γ fn recording out o out₂ (a >>= λ x. behind (x .1) (f (x .0))) r₂
@@ -106,17 +105,17 @@ module _ {Γ fn : List ℕ} {recording : Bool} {out : List ℕ} {o : Out} where
       let H = Q .gone v d in
       done-passes {w = (v .0, w .1 ++ v .1)} (then ∙ ap (behind (w .1)) d) (record { fine = H .fine; state = H .state; lines = tells-then (G .lines) (H .lines) }))
 
-  -- a first run that is refused is all
-  pub passes-stop : {out₁ : List ℕ} {a : Answer Run} {r : Passed} (f : Run → Answer Run)
-      → Passes Γ fn recording out o out₁ a r → (r .refusal ≡ 0 → ⊥) → Passes Γ fn recording out o out₁ (a >>= f) r
-  passes-stop {r = r} f P z = refused-passes (r .refusal) (ap (λ (b : Answer Run). b >>= f) (passes-refused P z)) z refl (P .same)
+  -- a first run that is refused is all, whatever state is given back
+  pub passes-stop : {out₁ : List ℕ} {a : Answer Run} {r r′ : After} (f : Run → Answer Run)
+      → Passes Γ fn recording out o out₁ a r → (r .refusal ≡ 0 → ⊥) → r′ .refusal ≡ r .refusal → Passes Γ fn recording out o out₁ (a >>= f) r′
+  passes-stop {r = r} f P z d = refused-passes (r .refusal) (ap (λ (b : Answer Run). b >>= f) (passes-refused P z)) z d (P .same)
 
   -- WHAT IS LEFT
 
   -- a state
-  pub passes-stated : {out′ : List ℕ} {a : Answer Run} {r : Passed} → Passes Γ fn recording out o out′ a r → r .refusal ≡ 0 → Stated Γ (local-types fn) (r .state)
+  pub passes-stated : {out′ : List ℕ} {a : Answer Run} {r : After} → Passes Γ fn recording out o out′ a r → r .refusal ≡ 0 → Stated Γ (local-types fn) (r .state)
   passes-stated P z = let (w, e, G) = passes-done P z in record { state = w .0; holds = G .state }
 
   -- and counts in range
-  pub passes-counted : {out′ : List ℕ} {a : Answer Run} {r : Passed} → Counted out o → Passes Γ fn recording out o out′ a r → r .refusal ≡ 0 → Counted out′ (r .out)
+  pub passes-counted : {out′ : List ℕ} {a : Answer Run} {r : After} → Counted out o → Passes Γ fn recording out o out′ a r → r .refusal ≡ 0 → Counted out′ (r .out)
   passes-counted C P z = let (w, e, G) = passes-done P z in tells-counted C (G .lines)

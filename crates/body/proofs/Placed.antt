@@ -2,7 +2,7 @@
 use mathlib.Core.Path.{_≡_, refl, sym, ap, _∙_}
 use mathlib.Core.Logic.{_≢_}
 use mathlib.Core.Bool.{Bool, true, false}
-use mathlib.Core.List.{List, [], _∷_, append-nil}
+use mathlib.Core.List.{List, _∷_, append-nil}
 use mathlib.Core.Option.{some}
 use Prim.Native.Nat.{ℕ, suc, _+_, _≤_, _<_}
 use lib.ListN.{length, take}
@@ -56,11 +56,6 @@ module _ {Γ os fn : List ℕ} (A : Accepted Γ os fn) (i : ℕ) (l : i < nitems
   one-run entry E = uses-pass Γ fn entry i u 0 E ∙ bind-same (projection Γ (spot-before fn i) E) (λ r.
       ap (behind (mark (point fn entry i) (r .1))) (uses-none Γ fn entry (suc i) (r .0)) ∙ ap (λ (ls : List (Line At)). done (r .0, ls)) (append-nil _))
 
-  -- it leaves the state as it is, if the projection does
-  pub placed-rests : (entry : Bool) {E : Forest} → projection Γ (spot-before fn i) E ≡ done (E, []) → uses Γ fn entry 1 i E ≡ done (E, [])
-  unfolding mark
-  placed-rests entry {E} e = one-run entry E ∙ ap (at-point entry) e
-
   -- it is not refused with 0
   refused-some : {E : Forest} {s : State} {n : ℕ} → Holds Γ (local-types fn) (value s) E → projection Γ (spot-before fn i) E ≡ refused n → n ≢ 0
   refused-some h e = running-some (only-at (projection-refusals Γ (spot-before fn i) (h .trees .fits)
@@ -84,9 +79,9 @@ module _ {Γ os fn : List ℕ} (A : Accepted Γ os fn) (i : ℕ) (l : i < nitems
           unfold-short ops args (spot-before fn i) here m
 
       module _ (entry recording : Bool) {out : List ℕ} {o : Out} where
-        -- a refusal
-        pub placed-refused : {n : ℕ} → r .answer ≡ Refused n
-            → Passes Γ fn recording out o out (uses Γ fn entry 1 i E) (record { state = s; out = o; refusal = n })
+        -- a refusal, whatever state it leaves
+        pub placed-refused : {n : ℕ} {s′ : State} → r .answer ≡ Refused n
+            → Passes Γ fn recording out o out (uses Γ fn entry 1 i E) (record { state = s′; out = o; refusal = n })
         placed-refused {n} e =
             let d = answer-refused Γ (spot-before fn i) E (sym (projects .answer) ∙ e) in
             refused-passes n (one-run entry E ∙ ap (at-point entry) d) (refused-some h d) refl refl

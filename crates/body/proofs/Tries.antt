@@ -4,16 +4,20 @@ use mathlib.Core.Logic.{_≢_}
 use mathlib.Core.List.{List}
 use mathlib.Core.Option.{Option, none, some}
 use Prim.Native.Nat.{ℕ, _-_, _<_}
+use native.Mathlib.Omega.{arith}
 use borrow.Author.Tests.{eq-eqb, ne-eqb}
+use lib.Dec.{eqb}
 use lib.ListN.{length, set}
 use Rattle.model.specs.Words.{word}
 use Rattle.model.specs.Answer.{Answer, refused, done}
+use Rattle.model.specs.Types.{ntypes}
 use Rattle.model.specs.Tree.{Forest}
 use Rattle.model.specs.Walk.{downcasting}
 use Rattle.model.specs.Function.{op, arg}
 use Rattle.model.specs.Block.{spot-before, is-arm, arm-value}
 use Rattle.model.specs.Body.{variants, variant-of, only, open-variant}
-use Rattle.base.specs.Tests.{clash}
+use Rattle.base.specs.Tests.{split, clash}
+use Rattle.base.specs.Typed.{Typed}
 use Rattle.env.specs.Answers.{outcome}
 use Rattle.env.specs.declared.project.Outcome.{Outcome}
 use Rattle.env.specs.declared.project.Outcome.the-variants.{Fine, Refused as Denied}
@@ -22,7 +26,7 @@ use Rattle.body.specs.Arms.{rest, opens, leaves-by}
 use Rattle.body.specs.declared.arms.Variant.{Variant}
 use Rattle.body.specs.declared.arms.Variant.the-variants.{Of, Unknown}
 use Rattle.body.specs.Tries.{variant-as, free, arm, Tried, Ended}
-use Rattle.body.proofs.Variants.{free-kept, free-without}
+use Rattle.body.proofs.Variants.{variant-below, free-kept, free-without, count-few}
 
 -- an answer that is fine
 pub outcome-fine : (a : Answer Forest) → outcome a ≡ Fine → (D : Forest) × (a ≡ done D)
@@ -113,24 +117,38 @@ module _ {Γ fn : List ℕ} {read t : ℕ} (l o : ℕ) {E : Forest} {taken : Lis
 
 -- LEAVING BY A TARGET
 
-module _ (Γ fn : List ℕ) (read t l o i : ℕ) (E D : Forest) (e : leaves-by Γ fn (Match read t l o) i E ≡ done D) where
-  -- the otherwise target, as it is
-  pub leaves-same : op fn (i - 1) ≢ 9 → l ≢ 1 → E ≡ D
-  unfolding opens is-arm open-variant
-  leaves-same a d = let z = rest-none o d in cc (ne-eqb (op fn (i - 1)) 9 a)
+module _ (Γ fn : List ℕ) (t l o i : ℕ) where
+  -- an arm opens the variant of its value
+  pub opens-arm : {x : ℕ} → x ≡ arg fn (i - 1) → op fn (i - 1) ≡ 9 → opens Γ fn t l o i ≡ variant-of x (variants Γ t)
+  unfolding opens is-arm arm-value
+  opens-arm z a = cc (eq-eqb (op fn (i - 1)) 9 a)
 
-  -- by the one variant that is left
-  pub leaves-other : op fn (i - 1) ≢ 9 → l ≡ 1 → downcasting Γ (spot-before fn read) o E ≡ done D
-  unfolding opens is-arm open-variant
-  leaves-other a d = let z = rest-one {o = o} d in cc (ne-eqb (op fn (i - 1)) 9 a)
+  -- the otherwise target the one that is left
+  pub opens-other : op fn (i - 1) ≢ 9 → l ≡ 1 → opens Γ fn t l o i ≡ some o
+  unfolding opens is-arm
+  opens-other a d = let z = rest-one {o = o} d in cc (ne-eqb (op fn (i - 1)) 9 a)
 
-  module _ (a : op fn (i - 1) ≡ 9) where
-    -- an arm without a variant
-    pub leaves-unknown : variant-of (arm-value fn i) (variants Γ t) ≡ none → E ≡ D
-    unfolding opens is-arm open-variant
-    leaves-unknown k = cc (eq-eqb (op fn (i - 1)) 9 a)
+  -- or none
+  pub opens-none : op fn (i - 1) ≢ 9 → l ≢ 1 → opens Γ fn t l o i ≡ none
+  unfolding opens is-arm
+  opens-none a d = let z = rest-none o d in cc (ne-eqb (op fn (i - 1)) 9 a)
 
-    -- an arm, by its variant
-    pub leaves-arm : {v : ℕ} → variant-of (arm-value fn i) (variants Γ t) ≡ some v → downcasting Γ (spot-before fn read) v E ≡ done D
-    unfolding opens is-arm open-variant
-    leaves-arm k = cc (eq-eqb (op fn (i - 1)) 9 a)
+  -- its number is a small one
+  pub opens-small : Typed Γ → t < ntypes Γ → o < 4294967296 → {v : ℕ} → variant-as (opens Γ fn t l o i) ≡ Of v → v < 4294967296
+  unfolding opens rest
+  opens-small T k s {v} e =
+      let z = as-some (opens Γ fn t l o i) v e in
+      split (is-arm fn i)
+      (λ a. omega (arith, variant-below Γ t (arm-value fn i) {v = v} (cc), count-few T k))
+      (λ a. split (eqb l 1) (λ d. let q : o ≡ v = cc in omega arith) (λ d. clash (cc)))
+
+  module _ (read : ℕ) (E D : Forest) (e : leaves-by Γ fn (Match read t l o) i E ≡ done D) where
+    -- a target that opens none leaves the state as it is
+    pub leaves-same : variant-as (opens Γ fn t l o i) ≡ Unknown → E ≡ D
+    unfolding open-variant
+    leaves-same k = let z = as-none (opens Γ fn t l o i) k in cc
+
+    -- the others open their variant
+    pub leaves-open : {v : ℕ} → variant-as (opens Γ fn t l o i) ≡ Of v → downcasting Γ (spot-before fn read) v E ≡ done D
+    unfolding open-variant
+    leaves-open {v} k = let z = as-some (opens Γ fn t l o i) v k in cc

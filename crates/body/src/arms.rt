@@ -1,7 +1,7 @@
 // A match: which variant each target opens. All arms are tried before the first is entered.
 ghost use mathlib.Core.Path.{_≡_};
 ghost use mathlib.Core.Bool.{true};
-ghost use Prim.Native.Nat.{_≤_, _<_};
+ghost use Prim.Native.Nat.{_<_};
 ghost use lib.ListN.{length};
 ghost use Rattle.model.specs.Answer.{done};
 ghost use Rattle.model.specs.Types.{ntypes, kind, types-ok};
@@ -12,18 +12,18 @@ ghost use Rattle.model.specs.Block.{spot-before, uses-place};
 ghost use Rattle.model.specs.Body.{variants, variant-of};
 ghost use Rattle.records.specs.Here.{Holds};
 ghost use Rattle.type_record.specs.Sizes.{Ready};
-ghost use Rattle.state.specs.Value.{value};
-ghost use Rattle.env.specs.Answers.{Moves};
+ghost use Rattle.state.specs.Value.{value, state-in};
+ghost use Rattle.env.specs.Answers.{outcome};
 ghost use Rattle.body.specs.Given.{Accepted, Stated};
-ghost use Rattle.body.specs.Arms.{leaves-by, Leaves, Planned, Sought};
+ghost use Rattle.body.specs.Arms.{opens, leaves-by, Leaves, Planned, Sought};
 ghost use Rattle.body.specs.Tries.{variant-as, Rested, Tried, Ended, Matching, Blank};
 use blocks::matching::Item;
 use blocks::matching::matched;
 use blocks::place::root_before;
+use env::open::can_downcast;
+use env::open::downcast;
 use env::project::Enum;
-use env::project::Moved;
 use env::project::Outcome;
-use env::project::downcast;
 use env::project::enum_at;
 use mir::function::arg_of;
 use mir::function::args_from;
@@ -31,6 +31,8 @@ use mir::function::local_types;
 use mir::function::op_of;
 use mir::function::ops_from;
 use state::nodes::State;
+use state::share::load;
+use statements::small;
 use type_record::record::count_of;
 use type_record::record::discriminant;
 use type_record::record::wide;
@@ -70,50 +72,57 @@ fn variant_of(types: &[u32], offs: &[u32], t: usize, x: usize) -> Variant
     Variant::Unknown
 }
 
-// A variant's number as a place has it.
-fn small(v: usize) -> u32
-    requires { ⌜ v ≤ 16384 ⌝ }
-    ensures { λ r. ⌜ r ≡ v ⌝ }
-{
-    v as u32
-}
-
-// The state with the variant v of the matched place open.
-fn open_variant(types: &[u32], offs: &[u32], fun: &[u32], read: usize, v: u32, s: State) -> Moved
+// Is the variant v of the matched place refused?
+fn try_variant<'a>(
+    types: &[u32],
+    offs: &[u32],
+    fun: &[u32],
+    read: usize,
+    v: u32,
+    forms: &'a [u16],
+    whats: &'a [u16],
+    nodes: usize,
+) -> Outcome
     requires { ⌜ Accepted (now types) (now offs) (now fun) ⌝ }
     requires { ⌜ (read < nitems (now fun)) × (uses-place (now fun) read ≡ true) ⌝ }
-    requires { ⌜ Stated (now types) (local-types (now fun)) s ⌝ }
-    ensures { λ r. ⌜ ((E : Forest) → Holds (now (types .entry)) (local-types (now (fun .entry))) (value s) E → Moves (now (types .entry)) (local-types (now (fun .entry))) s (downcasting (now (types .entry)) (spot-before (now (fun .entry)) read) v E) r) ⌝ }
+    requires { ⌜ Stated (now types) (local-types (now fun)) (state-in (now forms) (now whats) nodes) ⌝ }
+    ensures { λ r. ⌜ ((E : Forest) → Holds (now (types .entry)) (local-types (now (fun .entry))) (value (state-in (now (forms .entry)) (now (whats .entry)) nodes)) E → r ≡ outcome (downcasting (now (types .entry)) (spot-before (now (fun .entry)) read) v E)) ⌝ }
 {
     let r = root_before(fun, read);
-    downcast(
+    let ops = ops_from(fun, r, read);
+    let args = args_from(fun, r, read);
+    can_downcast(
         types,
         offs,
         local_types(fun),
-        s,
-        ops_from(fun, r, read),
-        args_from(fun, r, read),
+        forms,
+        whats,
+        nodes,
+        ops,
+        args,
         v,
     )
 }
 
 // The arm of the target item i is tried. Its variant is marked as taken.
-fn try_arm(
+fn try_arm<'a>(
     types: &[u32],
     offs: &[u32],
     fun: &[u32],
     read: usize,
     t: usize,
     i: usize,
-    s: State,
+    forms: &'a [u16],
+    whats: &'a [u16],
+    nodes: usize,
     taken: &mut [u8],
 ) -> Outcome
     requires { ⌜ Accepted (now types) (now offs) (now fun) ⌝ }
     requires { ⌜ Sought (now types) (now fun) read t ⌝ }
     requires { ⌜ (0 < i) × (i < nitems (now fun)) ⌝ }
-    requires { ⌜ Stated (now types) (local-types (now fun)) s ⌝ }
+    requires { ⌜ Stated (now types) (local-types (now fun)) (state-in (now forms) (now whats) nodes) ⌝ }
     requires { ⌜ length (now taken) ≡ 16384 ⌝ }
-    ensures { λ r. ⌜ ((E : Forest) → Holds (now (types .entry)) (local-types (now (fun .entry))) (value s) E → Tried (now (types .entry)) (now (fun .entry)) read t i E (now (taken .entry)) (now (taken .exit)) r) ⌝ }
+    ensures { λ r. ⌜ ((E : Forest) → Holds (now (types .entry)) (local-types (now (fun .entry))) (value (state-in (now (forms .entry)) (now (whats .entry)) nodes)) E → Tried (now (types .entry)) (now (fun .entry)) read t i E (now (taken .entry)) (now (taken .exit)) r) ⌝ }
 {
     let a = variant_of(types, offs, t, wide(arg_of(fun, i - 1)));
     let Variant::Of(v) = a else {
@@ -123,8 +132,7 @@ fn try_arm(
         return Outcome::Refused(8);
     }
     taken[v] = 1;
-    let m = open_variant(types, offs, fun, read, small(v), s);
-    m.answer
+    try_variant(types, offs, fun, read, small(v), forms, whats, nodes)
 }
 
 // How many variants no arm took, and the last of them.
@@ -154,20 +162,22 @@ fn rest_of(types: &[u32], t: usize, taken: &[u8]) -> Rest
 }
 
 // The otherwise target, behind all arms: it opens the one variant that is left, if it is one.
-fn try_other(
+fn try_other<'a>(
     types: &[u32],
     offs: &[u32],
     fun: &[u32],
     read: usize,
     t: usize,
-    s: State,
+    forms: &'a [u16],
+    whats: &'a [u16],
+    nodes: usize,
     taken: &[u8],
 ) -> Plan
     requires { ⌜ Accepted (now types) (now offs) (now fun) ⌝ }
     requires { ⌜ Sought (now types) (now fun) read t ⌝ }
-    requires { ⌜ Stated (now types) (local-types (now fun)) s ⌝ }
+    requires { ⌜ Stated (now types) (local-types (now fun)) (state-in (now forms) (now whats) nodes) ⌝ }
     requires { ⌜ length (now taken) ≡ 16384 ⌝ }
-    ensures { λ r. ⌜ ((E : Forest) → Holds (now (types .entry)) (local-types (now (fun .entry))) (value s) E → Ended (now (types .entry)) (now (fun .entry)) read t E (now (taken .entry)) r) ⌝ }
+    ensures { λ r. ⌜ ((E : Forest) → Holds (now (types .entry)) (local-types (now (fun .entry))) (value (state-in (now (forms .entry)) (now (whats .entry)) nodes)) E → Ended (now (types .entry)) (now (fun .entry)) read t E (now (taken .entry)) r) ⌝ }
 {
     let w = rest_of(types, t, taken);
     if w.left != 1 {
@@ -178,8 +188,7 @@ fn try_other(
             other: w.other,
         };
     }
-    let m = open_variant(types, offs, fun, read, w.other, s);
-    let a = m.answer;
+    let a = try_variant(types, offs, fun, read, w.other, forms, whats, nodes);
     match a {
         Outcome::Fine => Plan::Match {
             read,
@@ -192,7 +201,7 @@ fn try_other(
 }
 
 // All arms of the block b, from the items from..end, in order; then the otherwise target, which is the last. taken: none is yet.
-fn try_arms(
+fn try_arms<'a>(
     types: &[u32],
     offs: &[u32],
     fun: &[u32],
@@ -201,24 +210,26 @@ fn try_arms(
     t: usize,
     from: usize,
     end: usize,
-    s: State,
+    forms: &'a [u16],
+    whats: &'a [u16],
+    nodes: usize,
     taken: &mut [u8],
 ) -> Plan
     requires { ⌜ Accepted (now types) (now offs) (now fun) ⌝ }
     requires { ⌜ b < nblocks (now fun) ⌝ }
     requires { ⌜ (from ≡ start (now fun) b) × (end ≡ stop (now fun) b) ⌝ }
-    requires { ⌜ Stated (now types) (local-types (now fun)) s ⌝ }
-    requires { ⌜ Matching (now types) (now fun) b read t s ⌝ }
+    requires { ⌜ Stated (now types) (local-types (now fun)) (state-in (now forms) (now whats) nodes) ⌝ }
+    requires { ⌜ Matching (now types) (now fun) b read t (state-in (now forms) (now whats) nodes) ⌝ }
     requires { ⌜ Blank (now taken) ⌝ }
-    ensures { λ r. ⌜ ((E : Forest) → Holds (now (types .entry)) (local-types (now (fun .entry))) (value s) E → Planned (now (types .entry)) (now (fun .entry)) b E r) ⌝ }
+    ensures { λ r. ⌜ ((E : Forest) → Holds (now (types .entry)) (local-types (now (fun .entry))) (value (state-in (now (forms .entry)) (now (whats .entry)) nodes)) E → Planned (now (types .entry)) (now (fun .entry)) b E r) ⌝ }
 {
     let mut i = from;
     while i < end {
         if op_of(fun, i) == 10 {
             if op_of(fun, i - 1) != 9 {
-                return try_other(types, offs, fun, read, t, s, taken);
+                return try_other(types, offs, fun, read, t, forms, whats, nodes, taken);
             }
-            let a = try_arm(types, offs, fun, read, t, i, s, taken);
+            let a = try_arm(types, offs, fun, read, t, i, forms, whats, nodes, taken);
             if let Outcome::Refused(n) = a {
                 return Plan::Refused(n);
             }
@@ -233,52 +244,130 @@ fn try_arms(
     }
 }
 
-// How the block's targets open the state s that its items leave.
-pub fn plan_of(
+// How the block's targets open the state of these arrays, which its items leave.
+pub fn plan_of<'a>(
     types: &[u32],
     offs: &[u32],
     fun: &[u32],
     b: usize,
     from: usize,
     end: usize,
-    s: State,
+    forms: &'a [u16],
+    whats: &'a [u16],
+    nodes: usize,
 ) -> Plan
     requires { ⌜ Accepted (now types) (now offs) (now fun) ⌝ }
     requires { ⌜ b < nblocks (now fun) ⌝ }
     requires { ⌜ (from ≡ start (now fun) b) × (end ≡ stop (now fun) b) ⌝ }
-    requires { ⌜ Stated (now types) (local-types (now fun)) s ⌝ }
-    ensures { λ r. ⌜ ((E : Forest) → Holds (now (types .entry)) (local-types (now (fun .entry))) (value s) E → Planned (now (types .entry)) (now (fun .entry)) b E r) ⌝ }
+    requires { ⌜ Stated (now types) (local-types (now fun)) (state-in (now forms) (now whats) nodes) ⌝ }
+    ensures { λ r. ⌜ ((E : Forest) → Holds (now (types .entry)) (local-types (now (fun .entry))) (value (state-in (now (forms .entry)) (now (whats .entry)) nodes)) E → Planned (now (types .entry)) (now (fun .entry)) b E r) ⌝ }
 {
     let m = matched(fun, b);
     let Item::At(read) = m else {
         return Plan::Plain;
     };
     let r = root_before(fun, read);
-    let e = enum_at(
-        types,
-        offs,
-        local_types(fun),
-        s,
-        ops_from(fun, r, read),
-        args_from(fun, r, read),
-    );
+    let ops = ops_from(fun, r, read);
+    let args = args_from(fun, r, read);
+    let e = enum_at(types, offs, local_types(fun), forms, whats, ops, args);
     match e {
         Enum::Refused(n) => Plan::Refused(n),
         Enum::Of(t) => {
             let mut taken = [0u8; 16384];
-            try_arms(types, offs, fun, b, read, t, from, end, s, &mut taken)
+            try_arms(
+                types,
+                offs,
+                fun,
+                b,
+                read,
+                t,
+                from,
+                end,
+                forms,
+                whats,
+                nodes,
+                &mut taken,
+            )
         }
     }
 }
 
-// The state that the target item i leaves with.
-pub fn target_state(types: &[u32], offs: &[u32], fun: &[u32], p: Plan, i: usize, s: State) -> State
+// The variant that the target item i opens, by a match on the enum t.
+fn opened_variant(
+    types: &[u32],
+    offs: &[u32],
+    fun: &[u32],
+    t: usize,
+    left: usize,
+    other: u32,
+    i: usize,
+) -> Variant
+    requires { ⌜ Accepted (now types) (now offs) (now fun) ⌝ }
+    requires { ⌜ (t < ntypes (now types)) × (kind (now types) t ≡ 7) ⌝ }
+    requires { ⌜ (0 < i) × (i < nitems (now fun)) ⌝ }
+    ensures { λ r. ⌜ r ≡ variant-as (opens (now (types .entry)) (now (fun .entry)) t left other i) ⌝ }
+{
+    if op_of(fun, i - 1) == 9 {
+        return variant_of(types, offs, t, wide(arg_of(fun, i - 1)));
+    }
+    if left == 1 {
+        return Variant::Of(wide(other));
+    }
+    Variant::Unknown
+}
+
+// The variant v of the matched place, which is not refused, is opened in the lent arrays. The nodes there are then.
+fn open_variant(
+    types: &[u32],
+    offs: &[u32],
+    fun: &[u32],
+    read: usize,
+    v: u32,
+    forms: &mut [u16],
+    whats: &mut [u16],
+    nodes: usize,
+) -> usize
+    requires { ⌜ Accepted (now types) (now offs) (now fun) ⌝ }
+    requires { ⌜ (read < nitems (now fun)) × (uses-place (now fun) read ≡ true) ⌝ }
+    requires { ⌜ Stated (now types) (local-types (now fun)) (state-in (now forms) (now whats) nodes) ⌝ }
+    ensures { λ r. ⌜ ((E D : Forest) → Holds (now (types .entry)) (local-types (now (fun .entry))) (value (state-in (now (forms .entry)) (now (whats .entry)) nodes)) E → downcasting (now (types .entry)) (spot-before (now (fun .entry)) read) v E ≡ done D → Holds (now (types .entry)) (local-types (now (fun .entry))) (value (state-in (now (forms .exit)) (now (whats .exit)) r)) D) ⌝ }
+{
+    let r = root_before(fun, read);
+    let ops = ops_from(fun, r, read);
+    let args = args_from(fun, r, read);
+    let m = downcast(
+        types,
+        offs,
+        local_types(fun),
+        forms,
+        whats,
+        nodes,
+        ops,
+        args,
+        v,
+    );
+    m.nodes
+}
+
+// The state that the target item i leaves with: a copy of the one in these arrays, with its variant open.
+pub fn target_state(
+    types: &[u32],
+    offs: &[u32],
+    fun: &[u32],
+    p: Plan,
+    i: usize,
+    forms: &[u16],
+    whats: &[u16],
+    nodes: usize,
+) -> State
     requires { ⌜ Accepted (now types) (now offs) (now fun) ⌝ }
     requires { ⌜ i < nitems (now fun) ⌝ }
-    requires { ⌜ Stated (now types) (local-types (now fun)) s ⌝ }
-    requires { ⌜ Leaves (now types) (now fun) p i s ⌝ }
-    ensures { λ r. ⌜ ((E D : Forest) → Holds (now (types .entry)) (local-types (now (fun .entry))) (value s) E → leaves-by (now (types .entry)) (now (fun .entry)) p i E ≡ done D → Holds (now (types .entry)) (local-types (now (fun .entry))) (value r) D) ⌝ }
+    requires { ⌜ Stated (now types) (local-types (now fun)) (state-in (now forms) (now whats) nodes) ⌝ }
+    requires { ⌜ Leaves (now types) (now fun) p i (state-in (now forms) (now whats) nodes) ⌝ }
+    ensures { λ r. ⌜ ((E D : Forest) → Holds (now (types .entry)) (local-types (now (fun .entry))) (value (state-in (now (forms .entry)) (now (whats .entry)) nodes)) E → leaves-by (now (types .entry)) (now (fun .entry)) p i E ≡ done D → Holds (now (types .entry)) (local-types (now (fun .entry))) (value r) D) ⌝ }
 {
+    let mut fs = load(forms, nodes);
+    let mut ws = load(whats, nodes);
     let Plan::Match {
         read,
         typ,
@@ -286,19 +375,24 @@ pub fn target_state(types: &[u32], offs: &[u32], fun: &[u32], p: Plan, i: usize,
         other,
     } = p
     else {
-        return s;
+        return State {
+            forms: fs,
+            whats: ws,
+            nodes,
+        };
     };
-    if op_of(fun, i - 1) != 9 {
-        if left != 1 {
-            return s;
-        }
-        let m = open_variant(types, offs, fun, read, other, s);
-        return m.state;
-    }
-    let a = variant_of(types, offs, typ, wide(arg_of(fun, i - 1)));
+    let a = opened_variant(types, offs, fun, typ, left, other, i);
     let Variant::Of(v) = a else {
-        return s;
+        return State {
+            forms: fs,
+            whats: ws,
+            nodes,
+        };
     };
-    let m = open_variant(types, offs, fun, read, small(v), s);
-    m.state
+    let n = open_variant(types, offs, fun, read, small(v), &mut fs, &mut ws, nodes);
+    State {
+        forms: fs,
+        whats: ws,
+        nodes: n,
+    }
 }

@@ -1,10 +1,9 @@
 // The items of a block up to its ender: each place used is projected, and recorded where the pass records.
 ghost use mathlib.Core.Path.{_≡_};
-ghost use mathlib.Core.Bool.{Bool, true, false};
-ghost use mathlib.Core.List.{List, [], _∷_};
+ghost use mathlib.Core.Bool.{true, false};
+ghost use mathlib.Core.List.{List, _∷_};
 ghost use Prim.Native.Nat.{ℕ, _-_, _≤_, _<_};
 ghost use lib.ListN.{length, take};
-ghost use Rattle.model.specs.Answer.{done};
 ghost use Rattle.model.specs.Tree.{Forest};
 ghost use Rattle.model.specs.State.{pairs};
 ghost use Rattle.model.specs.Function.{nitems, local-types};
@@ -12,20 +11,17 @@ ghost use Rattle.model.specs.Block.{uses-place, entry-point};
 ghost use Rattle.model.specs.Record.{point-entry};
 ghost use Rattle.records.specs.Here.{Holds};
 ghost use Rattle.mir.specs.Sizes.{Laid};
-ghost use Rattle.state.specs.Value.{value};
+ghost use Rattle.state.specs.Value.{value, state-in};
 ghost use Rattle.statements.specs.Kept.{Counted, Puts};
-ghost use Rattle.env.specs.Given.{state-in};
 ghost use Rattle.body.specs.Given.{Accepted, Stated};
-ghost use Rattle.body.specs.Uses.{point, uses, Passes};
+ghost use Rattle.body.specs.Uses.{point, uses, after-in, Passes};
 use blocks::place::root_before;
 use blocks::place::uses_place;
 use env::project::Projected;
-use env::project::at_rest;
 use env::project::projection;
 use mir::function::args_from;
 use mir::function::local_types;
 use mir::function::ops_from;
-use state::nodes::State;
 use statements::BEFORE;
 use statements::ENTRY;
 use statements::FOLD;
@@ -33,18 +29,13 @@ use statements::Out;
 use statements::Point;
 use statements::UNFOLD;
 use statements::record;
+use statements::small;
 
-// The state after some items, and what is recorded; a refusal, or 0.
+// The nodes that the lent arrays have after some items, and what is recorded; a refusal, or 0.
 pub struct Passed {
-    pub state: State,
+    pub nodes: usize,
     pub out: Out,
     pub refusal: u32,
-}
-
-fn small(n: usize) -> u32
-    ensures { λ r. ⌜ (n < 4294967296 → r ≡ n) ⌝ }
-{
-    (n % 4294967296) as u32
 }
 
 // The point of item i, or the entry's.
@@ -89,7 +80,9 @@ fn use_place(
     fun: &[u32],
     i: usize,
     entry: bool,
-    s: State,
+    forms: &mut [u16],
+    whats: &mut [u16],
+    nodes: usize,
     recording: bool,
     out: &mut [u32],
     o: Out,
@@ -97,32 +90,40 @@ fn use_place(
     requires { ⌜ Accepted (now types) (now offs) (now fun) ⌝ }
     requires { ⌜ i < nitems (now fun) ⌝ }
     requires { ⌜ uses-place (now fun) i ≡ true ⌝ }
-    requires { ⌜ Stated (now types) (local-types (now fun)) s ⌝ }
+    requires { ⌜ Stated (now types) (local-types (now fun)) (state-in (now forms) (now whats) nodes) ⌝ }
     requires { ⌜ Counted (now out) o ⌝ }
-    ensures { λ r. ⌜ ((E : Forest) → Holds (now (types .entry)) (local-types (now (fun .entry))) (value s) E → Passes (now (types .entry)) (now (fun .entry)) recording (now (out .entry)) o (now (out .exit)) (uses (now (types .entry)) (now (fun .entry)) entry 1 i E) r) ⌝ }
+    ensures { λ r. ⌜ ((E : Forest) → Holds (now (types .entry)) (local-types (now (fun .entry))) (value (state-in (now (forms .entry)) (now (whats .entry)) nodes)) E → Passes (now (types .entry)) (now (fun .entry)) recording (now (out .entry)) o (now (out .exit)) (uses (now (types .entry)) (now (fun .entry)) entry 1 i E) (after-in (now (forms .exit)) (now (whats .exit)) r)) ⌝ }
 {
     let p = point_of(i, entry);
     let root = root_before(fun, i);
     let ops = ops_from(fun, root, i);
     let args = args_from(fun, root, i);
-    let r = projection(types, offs, local_types(fun), s, ops, args);
+    let r = projection(
+        types,
+        offs,
+        local_types(fun),
+        forms,
+        whats,
+        nodes,
+        ops,
+        args,
+    );
     let a = r.answer;
-    let t = r.state;
     match a {
         Projected::Refused(n) => Passed {
-            state: s,
+            nodes,
             out: o,
             refusal: n,
         },
         Projected::Nothing => Passed {
-            state: t,
+            nodes: r.nodes,
             out: o,
             refusal: 0,
         },
         Projected::Fold => {
             let q = tell(out, o, recording, p, FOLD, ops, args, ops.len());
             Passed {
-                state: t,
+                nodes: r.nodes,
                 out: q,
                 refusal: 0,
             }
@@ -130,7 +131,7 @@ fn use_place(
         Projected::Unfold(n) => {
             let q = tell(out, o, recording, p, UNFOLD, ops, args, n + 1);
             Passed {
-                state: t,
+                nodes: r.nodes,
                 out: q,
                 refusal: 0,
             }
@@ -138,31 +139,7 @@ fn use_place(
     }
 }
 
-// Does item i use a place, and does that change the state of these arrays, or is it refused?
-fn moves<'a>(
-    types: &[u32],
-    offs: &[u32],
-    fun: &[u32],
-    i: usize,
-    forms: &'a [u16],
-    whats: &'a [u16],
-) -> bool
-    requires { ⌜ Accepted (now types) (now offs) (now fun) ⌝ }
-    requires { ⌜ i < nitems (now fun) ⌝ }
-    requires { ⌜ ((n : ℕ) × Stated (now types) (local-types (now fun)) (state-in (now forms) (now whats) n)) ⌝ }
-    ensures { λ r. ⌜ (r ≡ true → uses-place (now (fun .entry)) i ≡ true) ⌝ }
-    ensures { λ r. ⌜ (r ≡ false → (n : ℕ) (E : Forest) (entry : Bool) → Holds (now (types .entry)) (local-types (now (fun .entry))) (value (state-in (now (forms .entry)) (now (whats .entry)) n)) E → uses (now (types .entry)) (now (fun .entry)) entry 1 i E ≡ done (E, [])) ⌝ }
-{
-    if !uses_place(fun, i) {
-        return false;
-    }
-    let root = root_before(fun, i);
-    let ops = ops_from(fun, root, i);
-    let args = args_from(fun, root, i);
-    !at_rest(types, offs, local_types(fun), forms, whats, ops, args)
-}
-
-// The items from..end, all at the entry's point or each at its own.
+// The items from..end, all at the entry's point or each at its own, in the lent arrays.
 pub fn pass_items(
     types: &[u32],
     offs: &[u32],
@@ -170,33 +147,47 @@ pub fn pass_items(
     from: usize,
     end: usize,
     entry: bool,
-    s: State,
+    forms: &mut [u16],
+    whats: &mut [u16],
+    nodes: usize,
     recording: bool,
     out: &mut [u32],
     o: Out,
 ) -> Passed
     requires { ⌜ Accepted (now types) (now offs) (now fun) ⌝ }
     requires { ⌜ (from ≤ end) × (end ≤ nitems (now fun)) ⌝ }
-    requires { ⌜ Stated (now types) (local-types (now fun)) s ⌝ }
+    requires { ⌜ Stated (now types) (local-types (now fun)) (state-in (now forms) (now whats) nodes) ⌝ }
     requires { ⌜ Counted (now out) o ⌝ }
-    ensures { λ r. ⌜ ((E : Forest) → Holds (now (types .entry)) (local-types (now (fun .entry))) (value s) E → Passes (now (types .entry)) (now (fun .entry)) recording (now (out .entry)) o (now (out .exit)) (uses (now (types .entry)) (now (fun .entry)) entry (end - from) from E) r) ⌝ }
+    ensures { λ r. ⌜ ((E : Forest) → Holds (now (types .entry)) (local-types (now (fun .entry))) (value (state-in (now (forms .entry)) (now (whats .entry)) nodes)) E → Passes (now (types .entry)) (now (fun .entry)) recording (now (out .entry)) o (now (out .exit)) (uses (now (types .entry)) (now (fun .entry)) entry (end - from) from E) (after-in (now (forms .exit)) (now (whats .exit)) r)) ⌝ }
 {
-    let mut t = s;
+    let mut n = nodes;
     let mut q = o;
     let mut i = from;
     while i < end {
-        if moves(types, offs, fun, i, &t.forms, &t.whats) {
-            let r = use_place(types, offs, fun, i, entry, t, recording, out, q);
+        if uses_place(fun, i) {
+            let r = use_place(
+                types,
+                offs,
+                fun,
+                i,
+                entry,
+                forms,
+                whats,
+                n,
+                recording,
+                out,
+                q,
+            );
             if r.refusal != 0 {
                 return r;
             }
-            t = r.state;
+            n = r.nodes;
             q = r.out;
         }
         i += 1;
     }
     Passed {
-        state: t,
+        nodes: n,
         out: q,
         refusal: 0,
     }

@@ -2,15 +2,8 @@
 ghost use mathlib.Core.Path.{_≡_};
 ghost use Prim.Native.Nat.{_+_, _≤_, _<_};
 ghost use Rattle.collectors.specs.Trail.{Long, Added, Hopped};
+use statements::small;
 use type_record::kinds::pointer;
-
-// A number that a word can hold.
-fn small(n: usize) -> u32
-    requires { ⌜ n < 4294967296 ⌝ }
-    ensures { λ r. ⌜ r ≡ n ⌝ }
-{
-    (n % 4294967296) as u32
-}
 
 // The item behind the first n.
 pub fn set_item(ops: &mut [u32], args: &mut [u32], n: usize, op: u32, arg: usize)

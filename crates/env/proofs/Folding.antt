@@ -1,5 +1,5 @@
 -- A fold carried out is a projection: it is refused as that is, and leaves what that leaves (`fold-projection`).
-use mathlib.Core.Path.{_≡_, refl, sym, _∙_, ap}
+use mathlib.Core.Path.{_≡_, refl, sym, _∙_, ap, subst}
 use mathlib.Core.Bool.{true}
 use mathlib.Core.List.{List, [], _∷_, map}
 use Prim.Native.Nat.{ℕ, zero, suc, _<_}
@@ -15,6 +15,7 @@ use Rattle.base.specs.Answer.{split-answer, refusal, refusal-map, refusal-refus
 use Rattle.laws.specs.Projected.{project-folds, project-accepted}
 use Rattle.laws.specs.Recorded.{numbered}
 use Rattle.walk.proofs.Frames.{put, nth-put}
+use Rattle.state.specs.Value.{state-in}
 use Rattle.state.specs.declared.nodes.State.{State}
 use Rattle.env.specs.declared.project.Projected.the-variants.{Refused}
 use Rattle.env.specs.declared.project.Usage.{Usage}
@@ -103,11 +104,15 @@ recorded-fine (unfold-at k) n e = clash (cc)
 
 module _ {Γ locals : List ℕ} {s : State} {E : Forest} (fits : Fits Γ locals E) (q : Spot) (known : q .local < length locals) (u : usable (q .place) ≡ true) {r : Usage}
     (P : Projects Γ locals s (projection Γ q E) r) where
-  -- the projection is refused, and so is the fold
-  pub fold-refused : {n : ℕ} → r .answer ≡ Refused n → Moves Γ locals s (carrying Γ locals Fold q E) (record { answer = Denied n; state = s })
+  -- the projection is refused, and so is the fold: the arrays are as they were
+  pub fold-refused : {n : ℕ} → r .answer ≡ Refused n
+      → Moves Γ locals s (carrying Γ locals Fold q E) (record { answer = Denied n; state = state-in (r .state .forms) (r .state .whats) (s .nodes) })
   fold-refused {n} a =
       split-answer (projection Γ q E)
-      (λ m e. let same : m ≡ n = cc (P .answer) in moves-refused (fold-projection Γ locals fits q known u ∙ rw (e, same)))
+      (λ m e.
+      let same : m ≡ n = cc (P .answer) in
+      subst (λ (t : State). Moves Γ locals s (carrying Γ locals Fold q E) (record { answer = Denied n; state = state-in (t .forms) (t .whats) (s .nodes) })) (sym (P .kept m e))
+      (moves-refused (fold-projection Γ locals fits q known u ∙ rw (e, same))))
       (λ w e. absurd (recorded-fine (recorded-as (w .1)) n (cc (P .answer))))
 
   -- it is not, and leaves what the fold leaves

@@ -1,5 +1,5 @@
--- A walk that has ended in the tree of a local (`Sited`), and one step more there: what `opened` asks for it, and what it gives.
-use mathlib.Core.Path.{_≡_, refl, sym, _∙_, subst}
+-- A walk that has ended in the tree of a local (`Sited`), and one step more there: what `open_nodes` asks for it, and what it gives.
+use mathlib.Core.Path.{_≡_, refl, sym, _∙_, ap, subst}
 use mathlib.Core.Logic.{_≢_}
 use mathlib.Core.Bool.{true}
 use mathlib.Core.List.{List, _∷_, _++_}
@@ -8,7 +8,7 @@ use Prim.Native.Nat.{ℕ, _+_, _-_, _*_, _<_, _≤_}
 use native.Mathlib.Omega.{arith}
 use native.Mathlib.Decide.{decLt}
 use lib.ListN.{length, getD}
-use Rattle.model.specs.Answer.{Answer, refused}
+use Rattle.model.specs.Answer.{Answer, refused, done}
 use Rattle.model.specs.Tree.{Tree, leaf, Forest, sizes}
 use Rattle.model.specs.Typing.{Fits}
 use Rattle.model.specs.State.{Code, levels, codess}
@@ -39,15 +39,14 @@ use Rattle.walk.proofs.Ways.{length-route}
 use Rattle.walk.proofs.Places.{length-ops, length-args}
 use Rattle.walk.proofs.Sites.{bud-folded, sprung-to}
 use Rattle.walk.proofs.Ends.{site-stays, site-last, site-barred, acts-cast, acts-open}
-use Rattle.env.specs.declared.project.Outcome.{Outcome}
-use Rattle.env.specs.declared.project.Outcome.the-variants.{Fine, Refused as Denied}
+use Rattle.env.specs.declared.project.Outcome.the-variants.{Fine}
 use Rattle.env.specs.declared.project.Moved.{Moved}
-use Rattle.env.specs.Answers.{last-step, carrying, Moves, left}
+use Rattle.env.specs.Answers.{last-step, carrying, outcome, Moves, Widens}
 use Rattle.env.specs.Given.{Sited}
 use Rattle.env.proofs.Limits.{Limited, spot-limited}
-use Rattle.env.proofs.Answered.{moves-refused, moves-done}
+use Rattle.env.proofs.Answered.{moves-done}
 use Rattle.env.proofs.Added.{Few, sprout-few}
-use Rattle.env.proofs.States.{holds-encoded, encoded-holds, fitting-fits, fitting-full, nth-refused, Grafts, among-grafted, among-stays}
+use Rattle.env.proofs.States.{holds-encoded, encoded-holds, fitting-fits, fitting-full, nth-refused, Grafts, among-grafted, Stands, among-stays}
 
 -- the walk w with another end
 abbrev pub ending : Walk → Fresh → Walk
@@ -194,37 +193,50 @@ module _ {Γ ops args : List ℕ} {s : State} {w : Walk} (h : Typed Γ) (d : Sit
         (trail Γ (folded (w .typ) 0) (opening ops args w) ++ tip Γ (w .fresh) o a) (g .added)
     grow-grafts = among-grafted (d .holds .trees .fits) (d .spot .local) (d .known) (site-last h (d .is) (d .site) folded-here o a some stays e)
 
-    -- it can be carried out
-    pub grow-opens : s .nodes + g .added ≤ 512 → Opens Γ ops args s (ending w g) o a
-    grow-opens r = sited-opens h d grow-grafts (λ n. absurd (some n)) (λ n. e) r
-
     -- there is no room for it
     pub grow-full : 512 < s .nodes + g .added → last-step Γ (elem-of o a) (d .spot) (d .state) ≡ refused 9
     unfolding last-step
     grow-full l = rw (grow-grafts .walks) (fitting-full Γ (grow-grafts .result) (omega (arith, grafts-nodes h d grow-grafts)))
 
-    -- it is carried out
-    pub grow-moves : s .nodes + g .added ≤ 512 → unfold-ok (length (d .locals)) (d .spot) ≡ true → {r : State} → Carried Γ ops args s (ending w g) o a r
-        → Moves Γ (d .locals) s (last-step Γ (elem-of o a) (d .spot) (d .state)) (record { answer = Fine; state = r })
-    unfolding last-step unfold-ok
-    grow-moves l k C =
-        let G = grow-grafts in
-        let q : Spot = d .spot in
-        let L : Limited 63 (length (d .locals)) q = spot-limited (length (d .locals)) q 63 k in
-        let f = walk Γ (acts Γ (elem-of o a)) (q .place) in
-        moves-done (rw (G .walks) (fitting-fits Γ (G .result) (omega (arith, grafts-nodes h d G))))
-        (encoded-holds (carried-encoded h d G refl refl C)
-        (good-at (nth-fit Γ (walk-fit Γ (acts-fit Γ (elem-of o a)) (q .place)) (q .local) (d .holds .trees .fits)) (G .walks))
-        (good-at (nth-levels f (acts-levels Γ (elem-of o a) stays (q .place) (L .near)) (q .local) (d .state) (d .holds .deep)) (G .walks)))
+    module _ (room : s .nodes + g .added ≤ 512) where
+      -- there is room
+      grow-fits : last-step Γ (elem-of o a) (d .spot) (d .state) ≡ done (grow-grafts .result)
+      unfolding last-step
+      grow-fits = rw (grow-grafts .walks) (fitting-fits Γ (grow-grafts .result) (omega (arith, grafts-nodes h d grow-grafts)))
 
-module _ {Γ ops args : List ℕ} {s : State} {w : Walk} (h : Typed Γ) (d : Sited Γ s ops args w) (e : Elem) where
-  -- at an open node the state stays as it is, or the step is refused
-  pub stay-moves : (getD (s .forms) (w .node) 0 ≡ 0 → ⊥) → (r : Outcome) → acts Γ e (d .site .passing .midway .tree) ≡ left (d .site .passing .midway .tree) r
-      → Moves Γ (d .locals) s (last-step Γ e (d .spot) (d .state)) (record { answer = r; state = s })
+      -- a state that has its codes is held
+      grow-holds : unfold-ok (length (d .locals)) (d .spot) ≡ true → {r : State} → Carried Γ ops args s (ending w g) o a r → Holds Γ (d .locals) (value r) (grow-grafts .result)
+      unfolding unfold-ok
+      grow-holds k C =
+          let G = grow-grafts in
+          let q : Spot = d .spot in
+          let L : Limited 63 (length (d .locals)) q = spot-limited (length (d .locals)) q 63 k in
+          let f = walk Γ (acts Γ (elem-of o a)) (q .place) in
+          encoded-holds (carried-encoded h d G refl refl C)
+          (good-at (nth-fit Γ (walk-fit Γ (acts-fit Γ (elem-of o a)) (q .place)) (q .local) (d .holds .trees .fits)) (G .walks))
+          (good-at (nth-levels f (acts-levels Γ (elem-of o a) stays (q .place) (L .near)) (q .local) (d .state) (d .holds .deep)) (G .walks))
+
+      -- it can be carried out, and is
+      pub grow-widens : unfold-ok (length (d .locals)) (d .spot) ≡ true → Widens Γ (d .locals) ops args s o a (last-step Γ (elem-of o a) (d .spot) (d .state)) (ending w g)
+      grow-widens k =
+          record {
+            opens = sited-opens h d grow-grafts (λ n. absurd (some n)) (λ n. e) room;
+            fine = ap outcome grow-fits;
+            gives = λ r C. moves-done grow-fits (grow-holds k C);
+          }
+
+module _ {Γ ops args : List ℕ} {s : State} {w : Walk} (h : Typed Γ) (d : Sited Γ s ops args w) (e : Elem) (n : getD (s .forms) (w .node) 0 ≡ 0 → ⊥) where
+  -- the walk's open nodes end at an open one
+  open-here : Stands Γ (d .spot .local) (d .spot .place) (d .state) (w .node) (d .site .passing .midway .tree)
+  open-here = among-stays (d .holds .trees .fits) (d .spot .local) (d .known) (site-stays h (d .is) (d .site) (sited-open h d n))
+
+  -- there the state stays as it is
+  pub stay-moves : acts Γ e (d .site .passing .midway .tree) ≡ done (d .site .passing .midway .tree)
+      → Moves Γ (d .locals) s (last-step Γ e (d .spot) (d .state)) (record { answer = Fine; state = s })
   unfolding last-step
-  stay-moves n Fine k =
-      let S = among-stays (d .holds .trees .fits) (d .spot .local) (d .known) (site-stays h (d .is) (d .site) (sited-open h d n)) in
-      moves-done (rw (S .leads (acts Γ e), k, S .whole) (fitting-fits Γ (d .state) (holds-few (d .holds)))) (d .holds)
-  stay-moves n (Denied r) k =
-      let S = among-stays (d .holds .trees .fits) (d .spot .local) (d .known) (site-stays h (d .is) (d .site) (sited-open h d n)) in
-      moves-refused (rw (S .leads (acts Γ e), k))
+  stay-moves k = moves-done (rw (open-here .leads (acts Γ e), k, open-here .whole) (fitting-fits Γ (d .state) (holds-few (d .holds)))) (d .holds)
+
+  -- or the step is refused
+  pub stay-barred : {m : ℕ} → acts Γ e (d .site .passing .midway .tree) ≡ refused m → last-step Γ e (d .spot) (d .state) ≡ refused m
+  unfolding last-step
+  stay-barred k = rw (open-here .leads (acts Γ e), k)

@@ -6,7 +6,7 @@ use Prim.Native.Nat.{ℕ, _+_, _-_, _<_, _≤_}
 use native.Mathlib.Omega.{arith}
 use lib.ListN.{length, getD, length-append}
 use Rattle.model.specs.Answer.{refused, done, _>>=_}
-use Rattle.model.specs.Tree.{Tree, leaf, node, Forest, size, sizes, type, unfolded}
+use Rattle.model.specs.Tree.{Tree, leaf, node, Forest, sizes, type, unfolded}
 use Rattle.model.specs.State.{Code, codes, codess}
 use Rattle.model.specs.Place.{Place, Spot, Fold, Unfold, At, base, walked, fold-ok}
 use Rattle.model.specs.Walk.{pick, walk, folding, carry, projection, fitting}
@@ -18,17 +18,17 @@ use Rattle.laws.specs.Levels.{nth-levels, carry-levels}
 use Rattle.laws.specs.Projected.{changed-goes}
 use Rattle.laws.specs.Projection.{projection-folds, projection-fits}
 use Rattle.laws.specs.Recorded.{numbered}
-use Rattle.records.specs.Here.{Coded, Holds}
+use Rattle.records.specs.Here.{Holds}
 use Rattle.records.specs.Codes.{length-codes, length-codess, size-pos}
 use Rattle.records.specs.Holds.{holds-few}
-use Rattle.records.specs.Coded.{coded-folded, coded-opened, coded-unique}
+use Rattle.records.specs.Coded.{coded-folded, coded-opened}
 use Rattle.state.specs.Value.{value}
 use Rattle.state.specs.declared.nodes.State.{State}
 use Rattle.walk.specs.Fresh.{folded, trail}
-use Rattle.walk.specs.Applied.{Encoded, tip, opening, Opens, Carried}
+use Rattle.walk.specs.Applied.{Encoded, tip, opening, Opens, Carried, Folds, Folded}
 use Rattle.walk.specs.declared.along.Walk.{Walk}
 use Rattle.walk.proofs.Ends.{site-changed, site-stays, site-grafted}
-use Rattle.env.specs.declared.project.Projected.the-variants.{Nothing, Fold as Folds, Unfold as Unfolds}
+use Rattle.env.specs.declared.project.Projected.the-variants.{Nothing, Fold as To-fold, Unfold as To-unfold}
 use Rattle.env.specs.Answers.{Projects}
 use Rattle.env.specs.Given.{Sited}
 use Rattle.env.proofs.Limits.{fold-walks, fold-usable, spot-limited}
@@ -83,9 +83,9 @@ module _ {Γ ops args : List ℕ} {s : State} {w : Walk} (h : Typed Γ) (d : Sit
 
     -- it is carried out
     pub unfold-projects : s .nodes + w .fresh .added ≤ 512 → fold-ok (length (d .locals)) (d .spot) ≡ true → {r : State} → Carried Γ ops args s w 0 0 r
-        → Projects Γ (d .locals) s (projection Γ (d .spot) (d .state)) (record { answer = Unfolds (w .walked - 2); state = r })
+        → Projects Γ (d .locals) s (projection Γ (d .spot) (d .state)) (record { answer = To-unfold (w .walked - 2); state = r })
     unfolding recorded-as recorded-verb
-    unfold-projects m ok C = projects-done (unfold-done m) (ap Unfolds (sym unfold-length)) (used-holds ok (unfold-done m) (carried-encoded h d unfold-grafts refl refl C))
+    unfold-projects m ok C = projects-done (unfold-done m) (ap To-unfold (sym unfold-length)) (used-holds ok (unfold-done m) (carried-encoded h d unfold-grafts refl refl C))
 
   -- A FOLD, OR NOTHING
 
@@ -102,13 +102,17 @@ module _ {Γ ops args : List ℕ} {s : State} {w : Walk} (h : Typed Γ) (d : Sit
     used-encoded : Encoded s (used-stands .frame .before ++ (codes Γ reached-tree ++ used-stands .frame .behind))
     used-encoded = subst (Encoded s) (ap (codess Γ) (sym (used-stands .whole)) ∙ used-stands .frame .coded reached-tree) (holds-encoded (d .holds))
 
-    -- the node that is folded lies within the state
-    pub fold-within : (x : Tree) → Coded Γ (s .forms) (s .whats) (w .node) (w .typ) x → w .node + size x ≤ s .nodes
-    fold-within x c =
-        let same : reached-tree ≡ x = coded-unique (h .known) (d .site .passing .midway .here) c in
-        let B : List Code = used-stands .frame .before in
-        let A : List Code = used-stands .frame .behind in
-        omega (arith, used-encoded .nodes, used-stands .place, length-append B (codes Γ reached-tree ++ A), length-append (codes Γ reached-tree) A, length-codes Γ reached-tree, ap size same)
+    -- it can be folded
+    pub fold-folds : Folds Γ s (w .node) (w .typ)
+    fold-folds =
+        record {
+          tree = reached-tree;
+          here = d .site .passing .midway .here;
+          front = used-stands .frame .before;
+          back = used-stands .frame .behind;
+          coded = used-encoded;
+          at = used-stands .place;
+        }
 
     module _ (f : getD (s .forms) (w .node) 0 ≡ 0 → ⊥) where
       -- it is open
@@ -149,17 +153,16 @@ module _ {Γ ops args : List ℕ} {s : State} {w : Walk} (h : Typed Γ) (d : Sit
           ∙ rw (fitting-fits Γ folded-state folded-few)
 
       -- a fold
-      pub fold-projects : fold-ok (length (d .locals)) (d .spot) ≡ true → {r : State}
-          → ((b e : List Code) (x : Tree) → Coded Γ (s .forms) (s .whats) (w .node) (w .typ) x → Encoded s (b ++ (codes Γ x ++ e)) → length b ≡ w .node → Encoded r (b ++ ((0, 0) ∷ e)))
-          → Projects Γ (d .locals) s (projection Γ (d .spot) (d .state)) (record { answer = Folds; state = r })
+      pub fold-projects : fold-ok (length (d .locals)) (d .spot) ≡ true → {r : State} → Folded Γ s (w .node) (w .typ) r
+          → Projects Γ (d .locals) s (projection Γ (d .spot) (d .state)) (record { answer = To-fold; state = r })
       unfolding recorded-as recorded-verb
-      fold-projects ok {r} c =
+      fold-projects ok {r} F =
           projects-done fold-done refl (used-holds ok fold-done (subst (Encoded r) (sym folded-codes)
-          (c (used-stands .frame .before) (used-stands .frame .behind) reached-tree (d .site .passing .midway .here) used-encoded (used-stands .place))))
+          (F .coded (used-stands .frame .before) (used-stands .frame .behind) reached-tree (d .site .passing .midway .here) used-encoded (used-stands .place))))
 
     module _ (z : getD (s .forms) (w .node) 0 ≡ 0) where
       -- the state stays as it is
-      pub nothing-done : projection Γ (d .spot) (d .state) ≡ done (d .state, [])
+      nothing-done : projection Γ (d .spot) (d .state) ≡ done (d .state, [])
       nothing-done =
           let e : projection Γ (d .spot) (d .state) ≡ fitting Γ (d .state) >>= with-these [] =
           projection-nothing (d .holds .trees .fits) (d .spot) (d .known) (used-stands .unchanged)

@@ -10,16 +10,29 @@ use Rattle.model.specs.Walk.{nth, walk, carry-at, fitting}
 use Rattle.model.specs.Calls.{Recorded, nothing, fold, unfold-at, recorded-as, statement-at}
 use Rattle.records.specs.Here.{Holds}
 use Rattle.walk.specs.Way.{acts}
-use Rattle.state.specs.Value.{value}
+use Rattle.walk.specs.Applied.{Opens, Carried}
+use Rattle.walk.specs.declared.along.Walk.{Walk}
+use Rattle.state.specs.Value.{value, state-in}
 use Rattle.state.specs.declared.nodes.State.{State}
 use Rattle.env.specs.declared.project.Projected.{Projected}
 use Rattle.env.specs.declared.project.Projected.the-variants.{Nothing, Fold, Unfold, Refused}
+use Rattle.env.specs.declared.project.Use.{Use}
 use Rattle.env.specs.declared.project.Usage.{Usage}
 use Rattle.env.specs.declared.project.Outcome.{Outcome}
 use Rattle.env.specs.declared.project.Outcome.the-variants.{Fine, Refused as Denied}
+use Rattle.env.specs.declared.project.Change.{Change}
 use Rattle.env.specs.declared.project.Moved.{Moved}
+use Rattle.env.specs.declared.open.Last.{Last}
+use Rattle.env.specs.declared.open.Last.the-variants.{Stays, Opens as Opening, Refused as Barred}
 use Rattle.env.specs.declared.project.Enum.{Enum}
 use Rattle.env.specs.declared.project.Enum.the-variants.{Of, Refused as Other}
+
+-- what a call in lent arrays leaves, as a call by value has it
+abbrev pub usage-in : Use → List ℕ → List ℕ → Usage
+usage-in r fs ws = record { answer = r .answer; state = state-in fs ws (r .nodes) }
+
+abbrev pub moved-in : Change → List ℕ → List ℕ → Moved
+moved-in r fs ws = record { answer = r .answer; state = state-in fs ws (r .nodes) }
 
 abbrev pub recorded : Recorded → Projected
 recorded nothing = Nothing
@@ -53,6 +66,18 @@ pub record Moves (Γ locals : List ℕ) (s : State) (a : Answer Forest) (r : Mov
   pub answer : r .answer ≡ outcome a
   pub moved : (D : Forest) → a ≡ done D → Holds Γ locals (value (r .state)) D
   pub kept : (n : ℕ) → a ≡ refused n → r .state ≡ s
+
+-- the walk w opens what model's a gives, by its last step
+pub record Widens (Γ locals ops args : List ℕ) (s : State) (op arg : ℕ) (a : Answer Forest) (w : Walk) : Type 0 where
+  pub opens : Opens Γ ops args s w op arg
+  pub fine : outcome a ≡ Fine
+  pub gives : (r : State) → Carried Γ ops args s w op arg r → Moves Γ locals s a (record { answer = Fine; state = r })
+
+-- what one step more does in the state s is model's a
+abbrev pub Lasts : (Γ locals ops args : List ℕ) → State → ℕ → ℕ → Answer Forest → Last → Type 0
+Lasts Γ locals ops args s op arg a Stays = Moves Γ locals s a (record { answer = Fine; state = s })
+Lasts Γ locals ops args s op arg a (Opening w) = Widens Γ locals ops args s op arg a w
+Lasts Γ locals ops args s op arg a (Barred n) = a ≡ refused n
 
 -- what a step leaves of the open tree y
 abbrev pub left : Tree → Outcome → Answer Tree

@@ -16,10 +16,6 @@ use Rattle.state.specs.declared.nodes.State.{State}
 use Rattle.walk.specs.Site.{Site}
 use Rattle.walk.specs.declared.along.Walk.{Walk}
 
--- the state of two arrays, with n nodes
-abbrev pub state-in : List ℕ → List ℕ → ℕ → State
-state-in fs ws n = record { forms = fs; whats = ws; nodes = n }
-
 -- s holds a state, and the items are a place that passes the test
 pub record Given (Γ locals : List ℕ) (s : State) (ops args : List ℕ) (ok : Spot → Bool) : Type 0 where
   pub state : Forest

@@ -10,6 +10,7 @@ ghost use Rattle.state.specs.Value.{value};
 ghost use Rattle.env.specs.Answers.{Records, Gives};
 ghost use Rattle.env.specs.Tested.{Tested};
 
+pub mod open;
 pub mod project;
 
 use blocks::place::is_place;
@@ -75,7 +76,25 @@ pub fn projection(types: &[u32], locals: &[u32], s: State, ops: &[u32], args: &[
             state: s,
         };
     }
-    project::projection(types, &offs, locals, s, ops, args)
+    let mut forms = s.forms;
+    let mut whats = s.whats;
+    let u = project::projection(
+        types,
+        &offs,
+        locals,
+        &mut forms,
+        &mut whats,
+        s.nodes,
+        ops,
+        args,
+    );
+    let answer = u.answer;
+    let state = State {
+        forms,
+        whats,
+        nodes: u.nodes,
+    };
+    Usage { answer, state }
 }
 
 // `Env::downcast`: walk the place, then downcast to the variant.
@@ -103,7 +122,26 @@ pub fn downcast(
             state: s,
         };
     }
-    project::downcast(types, &offs, locals, s, ops, args, variant)
+    let mut forms = s.forms;
+    let mut whats = s.whats;
+    let u = open::downcast(
+        types,
+        &offs,
+        locals,
+        &mut forms,
+        &mut whats,
+        s.nodes,
+        ops,
+        args,
+        variant,
+    );
+    let answer = u.answer;
+    let state = State {
+        forms,
+        whats,
+        nodes: u.nodes,
+    };
+    Moved { answer, state }
 }
 
 // Carries out a fold: walk the place, then fold the node.
@@ -124,7 +162,25 @@ pub fn fold(types: &[u32], locals: &[u32], s: State, ops: &[u32], args: &[u32]) 
             state: s,
         };
     }
-    project::fold(types, &offs, locals, s, ops, args)
+    let mut forms = s.forms;
+    let mut whats = s.whats;
+    let u = project::fold(
+        types,
+        &offs,
+        locals,
+        &mut forms,
+        &mut whats,
+        s.nodes,
+        ops,
+        args,
+    );
+    let answer = u.answer;
+    let state = State {
+        forms,
+        whats,
+        nodes: u.nodes,
+    };
+    Moved { answer, state }
 }
 
 // Carries out an unfold: walk the place; a folded node opens one level.
@@ -145,5 +201,23 @@ pub fn unfold(types: &[u32], locals: &[u32], s: State, ops: &[u32], args: &[u32]
             state: s,
         };
     }
-    project::unfold(types, &offs, locals, s, ops, args)
+    let mut forms = s.forms;
+    let mut whats = s.whats;
+    let u = open::unfold(
+        types,
+        &offs,
+        locals,
+        &mut forms,
+        &mut whats,
+        s.nodes,
+        ops,
+        args,
+    );
+    let answer = u.answer;
+    let state = State {
+        forms,
+        whats,
+        nodes: u.nodes,
+    };
+    Moved { answer, state }
 }

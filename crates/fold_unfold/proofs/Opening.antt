@@ -26,8 +26,7 @@ use Rattle.state.specs.Value.{value}
 use Rattle.state.specs.declared.nodes.State.{State}
 use Rattle.statements.specs.Kept.{Counted, Kept}
 use Rattle.statements.specs.declared.Out.{Out}
-use Rattle.body.specs.Uses.{point, uses, Tells, Passes}
-use Rattle.body.specs.declared.items.Passed.{Passed}
+use Rattle.body.specs.Uses.{point, uses, Tells, Passes, After}
 use Rattle.body.proofs.Stations.{entry-uses-uses}
 use Rattle.visit.specs.Memory.{Memory, jumps}
 use Rattle.visit.specs.Shares.{Arrays}
@@ -90,7 +89,7 @@ fresh-kept out = record {
 -- THE ENTRY'S USES
 
 -- they pass
-pub record Entered (Γ fn : List ℕ) (recording : Bool) (out′ : List ℕ) (r : Passed) : Type 0 where
+pub record Entered (Γ fn : List ℕ) (recording : Bool) (out′ : List ℕ) (r : After) : Type 0 where
   pub entry : Forest × List At
   pub enters : enter-uses Γ (entry-uses fn) (leaves (local-types fn)) ≡ done entry
   pub holds : Holds Γ (local-types fn) (value (r .state)) (entry .0)
@@ -109,7 +108,7 @@ told-spoken Γ fn true {out} {out′} {q} ts T m l =
     let k : Kept (length ls) (entries (entry-point fn) ls) out′ q = rw zero-add at (U .kept 0 [] (fresh-kept out)) in
     record { counted = U .counted; kept = λ z. rw l k }
 
-module _ {Γ fn : List ℕ} {recording : Bool} {out out′ : List ℕ} {r : Passed}
+module _ {Γ fn : List ℕ} {recording : Bool} {out out′ : List ℕ} {r : After}
     (P : Passes Γ fn recording out (record { statements = 0; entries = 0 }) out′ (uses Γ fn true (start fn 0) 0 (leaves (local-types fn))) r) where
   -- refused
   pub entry-refused : (r .refusal ≡ 0 → ⊥) → (x : Arrays) (m : Memory) → Visits Γ fn recording x out (opens Γ fn recording m) x out′ (Refused (r .refusal))
@@ -141,7 +140,7 @@ module _ {Γ fn : List ℕ} {recording : Bool} {out out′ : List ℕ} {r : Pass
       record { entry = w; enters = e; holds = G .state; spoken = told-spoken Γ fn recording (w .1) (G .lines) })
 
 -- and the jump to the start block
-pub opens-jumps : {Γ fn : List ℕ} {recording : Bool} {out′ : List ℕ} {r : Passed} (N : Entered Γ fn recording out′ r) (m : Memory)
+pub opens-jumps : {Γ fn : List ℕ} {recording : Bool} {out′ : List ℕ} {r : After} (N : Entered Γ fn recording out′ r) (m : Memory)
     → opens Γ fn recording m ≡ jumps Γ fn recording (nblocks fn) (exit fn true 0 0 (N .entry .0)) (entered Γ fn recording (N .entry .1) m)
 unfolding opens frame point
 opens-jumps N m = rw (N .enters)

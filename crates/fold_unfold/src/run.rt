@@ -20,7 +20,7 @@ use mir::function::nlocals;
 use mir::function::start_of;
 use queue::Popped;
 use queue::pop;
-use state::edit::folded;
+use state::nodes::State;
 use state::share::load_state;
 use statements::Out;
 use type_record::record::wide;
@@ -47,7 +47,8 @@ fn open_pass(
     requires { ⌜ Held (now types) (now fun) (arrays (now kept) (now visited) (now waits) (now forms) (now whats)) ⌝ }
     ensures { λ r. ⌜ ((m : Memory) → m .lines ≡ [] → Remembers (now (types .entry)) (now (fun .entry)) m (arrays (now (kept .entry)) (now (visited .entry)) (now (waits .entry)) (now (forms .entry)) (now (whats .entry))) → Visits (now (types .entry)) (now (fun .entry)) recording (arrays (now (kept .entry)) (now (visited .entry)) (now (waits .entry)) (now (forms .entry)) (now (whats .entry))) (now (out .entry)) (opens (now (types .entry)) (now (fun .entry)) recording m) (arrays (now (kept .exit)) (now (visited .entry)) (now (waits .exit)) (now (forms .exit)) (now (whats .exit))) (now (out .exit)) r) ⌝ }
 {
-    let s = folded(nlocals(fun));
+    let mut fs = [0u16; 512];
+    let mut ws = [0u16; 512];
     let o = Out {
         statements: 0,
         entries: 0,
@@ -59,7 +60,9 @@ fn open_pass(
         0,
         start_of(fun, 0),
         true,
-        s,
+        &mut fs,
+        &mut ws,
+        nlocals(fun),
         recording,
         out,
         o,
@@ -67,7 +70,11 @@ fn open_pass(
     if r.refusal != 0 {
         return Visit::Refused(r.refusal);
     }
-    let t = r.state;
+    let t = State {
+        forms: fs,
+        whats: ws,
+        nodes: r.nodes,
+    };
     let q = r.out;
     begin(
         types,

@@ -11,7 +11,12 @@ use Rattle.text.specs.declared.scan.Scan.{Scan}
 use Rattle.text.specs.Reading.{Reads, Steps}
 use Rattle.text.specs.Pieces.{answer, pieces-more, pieces-words}
 use Rattle.text.specs.Printing.{Refuses}
-use Rattle.ghosts.specs.Said.{Heard, Hears, Ended, Says}
+use Rattle.ghosts.specs.Said.{Hears, Ended, Says}
+
+-- some pieces have been read
+pub record Heard (s : Scan) (words : List ℕ) : Type 0 where
+  pub pieces : List (List ℕ)
+  pub reads : Reads (scan-pieces pieces fresh) s words
 
 -- nothing is read
 pub hears-nothing : (s : Scan) (words : List ℕ) → length words ≡ 4096 → Hears s words s words

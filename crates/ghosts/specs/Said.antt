@@ -8,11 +8,6 @@ use Rattle.records.specs.Scanned.{scan-pieces}
 use Rattle.text.specs.declared.scan.Scan.{Scan}
 use Rattle.text.specs.Reading.{Reads, Steps}
 
--- some pieces have been read
-pub record Heard (s : Scan) (words : List ℕ) : Type 0 where
-  pub pieces : List (List ℕ)
-  pub reads : Reads (scan-pieces pieces fresh) s words
-
 -- a piece more is read
 pub record Hears (s : Scan) (words : List ℕ) (r : Scan) (after : List ℕ) : Type 0 where
   pub piece : List ℕ

@@ -11,9 +11,9 @@ ghost use Rattle.records.specs.Here.{Here, Heres, Holds};
 ghost use Rattle.type_record.specs.Sizes.{Ready};
 ghost use Rattle.state.specs.Value.{value};
 ghost use Rattle.state.specs.Found.{Fields};
-ghost use Rattle.state.specs.Spliced.{fronted};
 ghost use Rattle.join.specs.Ends.{ended, Room, Settled, SettledAll, Met, MetAll};
 ghost use Rattle.join.specs.Answers.{JoinedIn};
+use state::edit::clear;
 use state::kids::kids_of;
 use state::nodes::State;
 use state::nodes::node_end;
@@ -306,17 +306,6 @@ pub enum Joined {
     Full,
 }
 
-fn clear_from(a: &mut [u16], k: usize)
-    requires { ⌜ (k ≤ 512) × (length (now a) ≡ 512) ⌝ }
-    ensures { λ r. ⌜ now (a .exit) ≡ fronted (now (a .entry)) k ⌝ }
-{
-    let mut i = k;
-    while i < 512 {
-        a[i] = 0;
-        i += 1;
-    }
-}
-
 fn join_locals<'a>(
     types: &[u32],
     offs: &[u32],
@@ -395,8 +384,8 @@ pub fn join_into(
         return Joined::Full;
     }
     let k = r.out;
-    clear_from(of, k);
-    clear_from(ow, k);
+    clear(of, k, 512);
+    clear(ow, k, 512);
     Joined::To {
         nodes: k,
         changed: r.changed,

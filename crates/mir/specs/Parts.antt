@@ -6,10 +6,9 @@ use mathlib.Core.Option.{Option, none, some}
 use Prim.Native.Nat.{ℕ, _+_, _-_}
 use lib.ListN.{take, drop}
 use lib.Dec.{eqb, ltb}
-use Rattle.model.specs.Words.{all}
 use Rattle.model.specs.Types.{ntypes, kind}
 use Rattle.model.specs.Place.{Spot}
-use Rattle.model.specs.Function.{nlocals, nblocks, nitems, start, rank, op, may-follow, arg-ok}
+use Rattle.model.specs.Function.{nlocals, nblocks, nitems, start, op, may-follow, arg-ok}
 use Rattle.model.specs.Calls.{spot-of}
 
 -- where op[I] stands
@@ -34,10 +33,6 @@ is-some (some a) = true
 -- a local's type: below T, and no variant
 unfoldable pub type-usable : List ℕ → ℕ → Bool
 type-usable Γ t = ltb t (ntypes Γ) && not (eqb (kind Γ t) 8)
-
--- no block before b has its rank
-unfoldable pub rank-fresh : List ℕ → ℕ → Bool
-rank-fresh fn b = all (λ c. not (eqb (rank fn c) (rank fn b))) b
 
 -- is item i the first of the block b?
 unfoldable pub begins : List ℕ → ℕ → ℕ → Bool

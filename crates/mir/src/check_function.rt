@@ -7,7 +7,7 @@ ghost use Rattle.model.specs.State.{locals-ok};
 ghost use Rattle.model.specs.Function.{nblocks, nitems, may-follow, after, arg-ok, function-sizes, starts-ok, ranks-ok, items-ok, function-ok};
 ghost use Rattle.type_record.specs.Sizes.{Sized};
 ghost use Rattle.mir.specs.Sizes.{Laid};
-ghost use Rattle.mir.specs.Parts.{type-usable, rank-fresh, begins, item-ok};
+ghost use Rattle.mir.specs.Parts.{type-usable, begins, item-ok};
 use crate::function::arg_of;
 use crate::function::local_types;
 use crate::function::nblocks;
@@ -206,37 +206,23 @@ fn starts_ok(fun: &[u32]) -> bool
     true
 }
 
-// No block before b has its rank.
-fn rank_fresh(fun: &[u32], b: usize) -> bool
-    requires { ⌜ Laid (now fun) ⌝ }
-    requires { ⌜ b < nblocks (now fun) ⌝ }
-    ensures { λ r. ⌜ r ≡ rank-fresh (now (fun .entry)) b ⌝ }
-{
-    let r = rank_of(fun, b);
-    let mut c = 0;
-    while c < b {
-        if rank_of(fun, c) == r {
-            return false;
-        }
-        c += 1;
-    }
-    true
-}
-
-// Ranks are 0 to B - 1, each once.
+// Ranks are 0 to B - 1, each once: seen marks those of the blocks before.
 fn ranks_ok(fun: &[u32]) -> bool
     requires { ⌜ Laid (now fun) ⌝ }
     ensures { λ r. ⌜ r ≡ ranks-ok (now (fun .entry)) ⌝ }
 {
     let n = nblocks(fun);
+    let mut seen = [0u8; 256];
     let mut b = 0;
     while b < n {
-        if n <= rank_of(fun, b) {
+        let r = rank_of(fun, b);
+        if n <= r {
             return false;
         }
-        if !rank_fresh(fun, b) {
+        if seen[r] != 0 {
             return false;
         }
+        seen[r] = 1;
         b += 1;
     }
     true

@@ -1,6 +1,6 @@
 -- One block's own run over trees (`basic_block` without `goto`, `statement`, `terminator`), and the frame of a function. All arms
 -- are tried before the first is entered, so the exits come with their states.
-use mathlib.Core.Bool.{Bool, true, false, cond}
+use mathlib.Core.Bool.{true, false}
 use mathlib.Core.List.{List, [], _∷_, _++_, map}
 use mathlib.Core.Option.{Option, none, some}
 use Prim.Native.Nat.{ℕ, zero, suc, _-_}

@@ -1,20 +1,20 @@
 -- The calls on states for users, by the words handed in: each tests its own input, in document 01's order. `refused` stands for
 -- states given back as they came and lent output zeroed.
-use mathlib.Core.Bool.{Bool, true, false, cond, _&&_, _||_}
+use mathlib.Core.Bool.{Bool, true, false, _&&_, _||_}
 use mathlib.Core.List.{List, [], _∷_}
 use mathlib.Core.Option.{Option, none, some}
-use Prim.Native.Nat.{ℕ, zero, suc, _+_, _*_}
+use Prim.Native.Nat.{ℕ}
 use lib.ListN.{length}
 use lib.Dec.{eqb, ltb, leb}
 use Rattle.model.specs.Answer.{Answer, refused, done, _>>=_, require}
 use Rattle.model.specs.Types.{types-ok}
-use Rattle.model.specs.Tree.{Forest, leaves, joins, flagss}
+use Rattle.model.specs.Tree.{Forest, joins, flagss}
 use Rattle.model.specs.State.{State, encode, decode, locals-ok}
-use Rattle.model.specs.Place.{Place, Spot, Verb, Fold, Unfold, Statement, At, used-ok, fold-ok, unfold-ok}
+use Rattle.model.specs.Place.{Place, Spot, Verb, Fold, Unfold, At, used-ok, fold-ok, unfold-ok}
 use Rattle.model.specs.Walk.{projection, downcasting, carry-at, fitting}
 use Rattle.model.specs.Collect.{collects, unfoldss, folds-at-ret}
 use Rattle.model.specs.Block.{elem-of}
-use Rattle.model.specs.Frame.{Line, mark}
+use Rattle.model.specs.Frame.{mark}
 use Rattle.model.specs.Record.{entries, statement-record, writable}
 
 -- THE INPUT

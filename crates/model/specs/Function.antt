@@ -2,7 +2,7 @@
 -- Items (op, arg): 0 root (local), 1 deref, 2 field (number), 3 downcast (variant), 4 index, 5 use, 6 read, 7 note, 8 switch,
 -- 9 arm (value), 10 target (block), 11 return, 12 stop. An arg not named is 0.
 use mathlib.Core.Bool.{Bool, true, false, cond, not, _&&_, _||_}
-use mathlib.Core.List.{List, [], _∷_, _++_}
+use mathlib.Core.List.{List, [], _∷_}
 use Prim.Native.Nat.{ℕ, zero, suc, _+_, _*_}
 use lib.ListN.{length, getD, take, drop}
 use lib.Dec.{eqb, ltb, leb}

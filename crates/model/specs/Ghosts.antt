@@ -6,7 +6,7 @@ use Prim.Native.Nat.{ℕ, zero, suc, _+_, _-_, _*_, _/_, _%_, _^_}
 use lib.ListN.{length, take, drop}
 use lib.Dec.{eqb, ltb, leb}
 use Rattle.model.specs.Words.{word}
-use Rattle.model.specs.Answer.{Answer, refused, done, _>>=_, require}
+use Rattle.model.specs.Answer.{Answer, refused, done, require}
 use Rattle.model.specs.Tree.{Forest}
 use Rattle.model.specs.Place.{Elem, deref, field, downcast, index, Place, Verb, Fold, Unfold, At}
 use Rattle.model.specs.Block.{entry-point}

@@ -1,8 +1,8 @@
 -- The statement record: statement count, entry count, op[], arg[]; per statement 13 (before item arg) or 14 (entry, arg 0), then
 -- 15 fold or 16 unfold, then the place. Written, and read back.
-use mathlib.Core.Bool.{Bool, true, false, cond, _&&_}
+use mathlib.Core.Bool.{Bool, cond, _&&_}
 use mathlib.Core.List.{List, [], _∷_, _++_, map}
-use Prim.Native.Nat.{ℕ, zero, suc, _+_, _*_, _-_, _^_}
+use Prim.Native.Nat.{ℕ, _+_, _*_, _-_, _^_}
 use lib.ListN.{length, take, drop, replicate}
 use lib.Dec.{eqb, ltb, leb}
 use Rattle.model.specs.Words.{word}

@@ -5,7 +5,7 @@
 -- target's own unfolding, if any (walk the place read, then downcast to the variant), then the item's statements; it then stands
 -- at the start of the block that the item names. After the last jump, or with none, it still goes through its block.
 use mathlib.Core.Path.{_≡_}
-use mathlib.Core.Bool.{Bool, true, false}
+use mathlib.Core.Bool.{true, false}
 use mathlib.Core.List.{List, [], _∷_}
 use mathlib.Core.Option.{Option, none, some}
 use Prim.Native.Nat.{ℕ}

@@ -1,6 +1,6 @@
 -- State records: form[n], what[n], nodes in preorder, local after local. Forms: 0 folded, else `form` of the kind; what is the
 -- variant for an open enum, else 0. By value a state is its two arrays of 512, zero past the node count, and that count.
-use mathlib.Core.Bool.{Bool, true, false, cond, not, _&&_, _||_}
+use mathlib.Core.Bool.{Bool, true, false, cond, not, _&&_}
 use mathlib.Core.List.{List, [], _∷_, _++_, map}
 use mathlib.Core.Option.{Option, none, some}
 use Prim.Native.Nat.{ℕ, zero, suc, _-_}

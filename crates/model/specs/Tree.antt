@@ -2,10 +2,10 @@
 -- A leaf is a folded place (`Ty`); a node is an unfolded one, with the place below each of its fields. t: the type's
 -- number; v: the variant, for an enum (else 0). The source's other five constructors follow from the kind of t.
 use mathlib.Core.Bool.{Bool, true, false, cond, _||_}
-use mathlib.Core.List.{List, [], _∷_, _++_}
+use mathlib.Core.List.{List, [], _∷_}
 use Prim.Native.Nat.{ℕ, suc, _+_}
 use lib.Dec.{eqb}
-use Rattle.model.specs.Types.{kind, kids, sticky, below}
+use Rattle.model.specs.Types.{kind, sticky, below}
 
 mutual
   pub data Tree : Type 0 where

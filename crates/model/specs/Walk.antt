@@ -3,8 +3,7 @@
 -- What is done at the node reached is handed in, so that one definition serves: `walk done p` only walks, `walk folding p`
 -- then folds, `walk opening p` then opens one level, `walk (enter (downcast v)) p` then opens the variant v.
 use mathlib.Core.List.{List, [], _∷_, map}
-use mathlib.Core.Bool.{Bool, true, false, cond, not, _||_}
-use mathlib.Core.Option.{Option, none, some}
+use mathlib.Core.Bool.{Bool, false, cond, not, _||_}
 use Prim.Native.Nat.{ℕ, zero, suc}
 use lib.Dec.{eqb, leb}
 use Rattle.model.specs.Answer.{Answer, refused, done, _>>=_, require, run}

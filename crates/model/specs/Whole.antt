@@ -1,9 +1,9 @@
 -- The whole-function call: its answer, the two store arrays and the statement buffer, to the last word, from the two records and
 -- the lengths of what is lent.
-use mathlib.Core.Bool.{Bool, true, false, cond, _&&_}
+use mathlib.Core.Bool.{cond}
 use mathlib.Core.List.{List, [], _∷_, _++_}
 use mathlib.Core.Option.{Option, none, some}
-use Prim.Native.Nat.{ℕ, zero, suc, _+_, _*_}
+use Prim.Native.Nat.{ℕ, _+_, _*_}
 use lib.ListN.{length, replicate}
 use lib.Dec.{leb}
 use Rattle.model.specs.Words.{collect-from}
@@ -14,7 +14,6 @@ use Rattle.model.specs.State.{most, State, encode}
 use Rattle.model.specs.Place.{At}
 use Rattle.model.specs.Function.{nblocks, local-types, function-ok}
 use Rattle.model.specs.Block.{places-ok, entry-uses, entry-point, is-join-point, join-points}
-use Rattle.model.specs.Frame.{Line}
 use Rattle.model.specs.Passes.{Found, analyse}
 use Rattle.model.specs.Body.{enter-uses, frame}
 use Rattle.model.specs.Record.{entries, statement-record, writable, lent}

@@ -77,10 +77,11 @@ module _ (entry : ℕ) where
   gather-entries [] = refl
   gather-entries (l ∷ ls) = gather-line l (entries entry ls) ls (gather-entries ls)
 
-  -- the record, read with whatever words behind it
-  pub recorded-front : (ls : List (Line At)) (r : List ℕ) → recorded entry (statement-record entry ls ++ r) ≡ ls
-  unfolding recorded statement-record
-  recorded-front ls r =
+  -- its entries, with whatever words behind it
+  pub entries-front : (ls : List (Line At)) (r : List ℕ) → let n = length (entries entry ls) in
+      pairs (take n (drop 2 (statement-record entry ls ++ r))) (take n (drop (2 + n) (statement-record entry ls ++ r))) ≡ entries entry ls
+  unfolding statement-record
+  entries-front ls r =
       let es : List Entry = entries entry ls in
       let n : ℕ = length es in
       let both : (firsts es ++ seconds es) ++ r ≡ firsts es ++ (seconds es ++ r) = append-assoc (firsts es) (seconds es) r in
@@ -90,8 +91,12 @@ module _ (entry : ℕ) where
       ∙ ap (λ (l : List ℕ). take n (drop n l)) both
       ∙ ap (take n) (drop-at (firsts es) _ n (length-map es _))
       ∙ take-at (seconds es) r n (length-map es _) in
-      ap (λ (l : List Entry). (gather entry l) .lines) (ap₂ pairs ops args ∙ pairs-halves es)
-      ∙ ap (λ (g : Gathered). g .lines) (gather-entries ls)
+      ap₂ pairs ops args ∙ pairs-halves es
+
+  -- the record, read with whatever words behind it
+  pub recorded-front : (ls : List (Line At)) (r : List ℕ) → recorded entry (statement-record entry ls ++ r) ≡ ls
+  unfolding recorded statement-record
+  recorded-front ls r = ap (λ (l : List Entry). (gather entry l) .lines) (entries-front ls r) ∙ ap (λ (g : Gathered). g .lines) (gather-entries ls)
 
   -- the record, read
   pub recorded-written : (ls : List (Line At)) → recorded entry (statement-record entry ls) ≡ ls

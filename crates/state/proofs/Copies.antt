@@ -1,12 +1,12 @@
--- Arrays that a loop fills, a word a turn, with the words of another list: from the front, or behind a gap. Nothing of any record.
+-- Arrays that a loop fills, a word a turn, with the words of another list: from the front, or from a place on. Nothing of any record.
 use mathlib.Core.Path.{_≡_, refl, sym, _∙_, ap, ap₂}
-use mathlib.Core.List.{List, _∷_, _++_, append-assoc, append-nil}
+use mathlib.Core.List.{List, _∷_, _++_, append-nil}
 use Prim.Native.Nat.{ℕ, zero, suc, _+_, _-_, _<_, _≤_}
 use native.Mathlib.Nat.{sub-zero, zero-sub, suc-sub-suc}
 use native.Mathlib.Numerals.{add-one}
 use native.Mathlib.Omega.{arith}
 use lib.ListN.{length, take, drop, getD, set, replicate, length-drop, length-replicate, drop-of-length-le}
-use lib.Seq.{paste, paste-suc, set-at, drop-cons, take-suc, append-snoc, length-take-le, take-all, take-append-add, drop-append-add, getD-drop}
+use lib.Seq.{paste, paste-suc, set-at, drop-cons, take-suc, append-snoc, length-take-le, take-all, getD-drop}
 
 -- l with its first k words from s
 abbrev pub front : List ℕ → List ℕ → ℕ → List ℕ
@@ -64,22 +64,3 @@ length-blank = length-replicate {A = ℕ} 512 0
 pub drop-blank : (n : ℕ) → drop n blank ≡ replicate (512 - n) 0
 unfolding blank
 drop-blank n = drop-replicate n 512 0
-
--- a blank array with i words of s, a gap, and k words of r
-pub front-paste : (s r : List ℕ) (i gap k : ℕ) → i ≤ length s → i + gap + k ≤ 512
-    → paste (front blank s i) (i + gap) r k ≡ take i s ++ (replicate gap 0 ++ (take k r ++ replicate (512 - (i + gap + k)) 0))
-front-paste s r i gap k hs hm =
-    let n : length (take i s) ≡ i = length-take-le i s hs in
-    let same : i + gap + k ≡ length (take i s) + (gap + k) = omega arith in
-    let left : 512 - i - (gap + k) ≡ 512 - (i + gap + k) = omega arith in
-    let x : take (i + gap) (front blank s i) ≡ take i s ++ replicate gap 0 =
-    ap (λ (j : ℕ). take (j + gap) (front blank s i)) (sym n)
-    ∙ take-append-add (take i s) (drop i blank) gap
-    ∙ ap (λ (l : List ℕ). take i s ++ l) (ap (take gap) (drop-blank i) ∙ take-replicate gap (512 - i) 0 (omega arith)) in
-    let y : drop (i + gap + k) (front blank s i) ≡ replicate (512 - (i + gap + k)) 0 =
-    ap (λ (j : ℕ). drop j (front blank s i)) same
-    ∙ drop-append-add (take i s) (drop i blank) (gap + k)
-    ∙ ap (drop (gap + k)) (drop-blank i)
-    ∙ drop-replicate (gap + k) (512 - i) 0
-    ∙ ap (λ (j : ℕ). replicate j 0) left in
-    ap₂ (λ (p q : List ℕ). p ++ take k r ++ q) x y ∙ append-assoc (take i s ++ replicate gap 0) (take k r) _ ∙ append-assoc (take i s) (replicate gap 0) _

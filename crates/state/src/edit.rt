@@ -1,53 +1,62 @@
-// States made anew: all folded, a subtree folded, room made below a node.
+// The arrays of a state changed where they stand: room is made for nodes, or nodes give way to a folded one.
 ghost use mathlib.Core.Path.{_≡_};
-ghost use Prim.Native.Nat.{_+_, _-_, _≤_};
-ghost use lib.ListN.{replicate};
-ghost use Rattle.state.specs.Spliced.{splice, Replaced};
-use crate::nodes::State;
+ghost use Prim.Native.Nat.{_+_, _-_, _<_, _≤_};
+ghost use lib.ListN.{length};
+ghost use Rattle.state.specs.Spliced.{fronted, cleared, moved, splice};
 
-// All n locals folded.
-pub fn folded(n: usize) -> State
-    ensures { λ r. ⌜ (r .forms ≡ replicate 512 0) × (r .whats ≡ replicate 512 0) × (r .nodes ≡ n) ⌝ }
+// The words from..end become zero.
+pub fn clear(a: &mut [u16], from: usize, end: usize)
+    requires { ⌜ (from ≤ end) × (end ≤ length (now a)) ⌝ }
+    ensures { λ r. ⌜ now (a .exit) ≡ cleared (now (a .entry)) from end ⌝ }
 {
-    State {
-        forms: [0; 512],
-        whats: [0; 512],
-        nodes: n,
+    let mut k = from;
+    while k < end {
+        a[k] = 0;
+        k += 1;
     }
 }
 
-// The first i of a, then `gap` zeros, then those from j on up to n.
-fn spliced(a: [u16; 512], i: usize, gap: usize, j: usize, n: usize) -> [u16; 512]
-    requires { ⌜ (i ≤ j) × (j ≤ n) × (n ≤ 512) × (i + gap + (n - j) ≤ 512) ⌝ }
-    ensures { λ r. ⌜ r ≡ splice a i gap j n ⌝ }
+// The words from..end move up, to stand from `to` on.
+fn move_up(a: &mut [u16], from: usize, end: usize, to: usize)
+    requires { ⌜ (from ≤ end) × (from ≤ to) × (to + (end - from) ≤ length (now a)) ⌝ }
+    ensures { λ r. ⌜ now (a .exit) ≡ moved (now (a .entry)) from end to ⌝ }
 {
-    let mut b = [0; 512];
-    let mut k = 0;
-    while k < i {
-        b[k] = a[k];
-        k += 1;
+    let mut k = end;
+    while from < k {
+        k -= 1;
+        a[to + (k - from)] = a[k];
     }
-    k = j;
-    while k < n {
-        b[i + gap + (k - j)] = a[k];
-        k += 1;
-    }
-    b
 }
 
-// The codes from i up to j are replaced by `gap` folded nodes.
-pub fn replaced(s: State, i: usize, j: usize, gap: usize) -> State
-    requires { ⌜ (i ≤ j) × (j ≤ s .nodes) × (s .nodes ≤ 512) × (i + gap + (s .nodes - j) ≤ 512) ⌝ }
-    ensures { λ r. ⌜ Replaced s i j gap r ⌝ }
+// The words from..end move down, to stand from `to` on.
+fn move_down(a: &mut [u16], from: usize, end: usize, to: usize)
+    requires { ⌜ (from ≤ end) × (to ≤ from) × (end ≤ length (now a)) ⌝ }
+    ensures { λ r. ⌜ now (a .exit) ≡ moved (now (a .entry)) from end to ⌝ }
 {
-    let n = s.nodes;
-    let f = s.forms;
-    let w = s.whats;
-    let forms = spliced(f, i, gap, j, n);
-    let whats = spliced(w, i, gap, j, n);
-    State {
-        forms,
-        whats,
-        nodes: n - (j - i) + gap,
+    let mut k = from;
+    while k < end {
+        a[to + (k - from)] = a[k];
+        k += 1;
     }
+}
+
+// Of n words with zeros behind them, the one at i gives way to `gap` zeros.
+pub fn make_room(a: &mut [u16], n: usize, i: usize, gap: usize)
+    requires { ⌜ (i < n) × (0 < gap) × (n + gap ≤ 513) ⌝ }
+    requires { ⌜ (length (now a) ≡ 512) × (now a ≡ fronted (now a) n) ⌝ }
+    ensures { λ r. ⌜ now (a .exit) ≡ splice (now (a .entry)) i gap (i + 1) n ⌝ }
+{
+    move_up(a, i + 1, n, i + gap);
+    clear(a, i, i + gap);
+}
+
+// Of n words with zeros behind them, those from i up to j give way to one zero.
+pub fn close_up(a: &mut [u16], n: usize, i: usize, j: usize)
+    requires { ⌜ (i < j) × (j ≤ n) × (n ≤ 512) ⌝ }
+    requires { ⌜ (length (now a) ≡ 512) × (now a ≡ fronted (now a) n) ⌝ }
+    ensures { λ r. ⌜ now (a .exit) ≡ splice (now (a .entry)) i 1 j n ⌝ }
+{
+    move_down(a, j, n, i + 1);
+    clear(a, i + 1 + (n - j), n);
+    a[i] = 0;
 }

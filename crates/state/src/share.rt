@@ -5,7 +5,7 @@ ghost use lib.ListN.{length};
 ghost use Rattle.state.specs.Spliced.{fronted};
 use crate::nodes::State;
 
-fn load(share: &[u16], n: usize) -> [u16; 512]
+pub fn load(share: &[u16], n: usize) -> [u16; 512]
     requires { ⌜ (n ≤ 512) × (n ≤ length (now share)) ⌝ }
     ensures { λ r. ⌜ r ≡ fronted (now (share .entry)) n ⌝ }
 {

@@ -104,7 +104,7 @@ pub fn record(
 }
 
 // A number as a word.
-fn small(n: usize) -> u32
+pub fn small(n: usize) -> u32
     ensures { λ r. ⌜ r ≡ n % 4294967296 ⌝ }
 {
     (n % 4294967296) as u32

@@ -17,7 +17,12 @@ use Rattle.model.specs.Ghosts.{elem-text, verb-text}
 use Rattle.base.specs.Tests.{cond-split}
 use Rattle.records.specs.Pairs.{firsts-pairs}
 use Rattle.records.specs.Digits.{length-number}
-use Rattle.text.specs.Printing.{entry-text, point, ends, first-text, entries-text, Whole, entries-of}
+use Rattle.text.specs.Printing.{entry-text, point, ends, first-text, Whole, entries-of}
+
+-- the text of entries
+unfoldable pub entries-text : List Entry → List ℕ
+entries-text [] = []
+entries-text (e ∷ es) = first-text (e ∷ es) ++ entries-text es
 
 -- IN THE ARRAY
 

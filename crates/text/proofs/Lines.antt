@@ -2,22 +2,19 @@
 use mathlib.Core.Path.{_≡_, refl, sym, _∙_, ap, ap₂}
 use mathlib.Core.Bool.{true, false}
 use mathlib.Core.List.{List, [], _∷_, _++_, map, append-assoc, append-nil}
-use Prim.Native.Nat.{ℕ, suc, _+_}
+use Prim.Native.Nat.{ℕ, _+_}
 use native.Mathlib.Omega.{arith}
 use lib.Dec.{eqb}
-use lib.ListN.{length, take, drop, length-append, length-map}
-use lib.Seq.{take-at, drop-at}
-use Rattle.model.specs.State.{pairs}
+use lib.ListN.{length-append}
 use Rattle.model.specs.Place.{Elem, deref, field, downcast, index, Place, Verb, Fold, Unfold, At}
 use Rattle.model.specs.Block.{elem-of}
 use Rattle.model.specs.Frame.{Line}
 use Rattle.model.specs.Record.{Entry, elem-entry, verb-entry, point-entry, line-entries, entries, statement-record, lent}
 use Rattle.model.specs.Ghosts.{number, elem-text, place-text, point-text, verb-text, line-text, lines-text}
 use Rattle.base.specs.Tests.{split}
-use Rattle.records.specs.Here.{firsts, seconds}
-use Rattle.records.specs.Pairs.{pairs-halves}
-use Rattle.records.specs.Recorded.{length-record}
-use Rattle.text.specs.Printing.{entry-text, point, ends, first-text, entries-text, Whole, entries-of}
+use Rattle.records.specs.Recorded.{length-record, entries-front}
+use Rattle.text.specs.Printing.{entry-text, point, ends, first-text, Whole, entries-of}
+use Rattle.text.proofs.Entries.{entries-text}
 
 -- ONE ENTRY
 
@@ -122,27 +119,10 @@ module _ (entry : ℕ) where
 
   -- RECORDS
 
-  -- the entries of a record, with whatever words behind it
-  entries-front : (ls : List (Line At)) (r : List ℕ) → entries-of (statement-record entry ls ++ r) ≡ entries entry ls
-  unfolding entries-of statement-record
-  entries-front ls r =
-      let es : List Entry = entries entry ls in
-      let n : ℕ = length es in
-      let words : List ℕ = length ls ∷ n ∷ ((firsts es ++ seconds es) ++ r) in
-      let both : (firsts es ++ seconds es) ++ r ≡ firsts es ++ (seconds es ++ r) = append-assoc (firsts es) (seconds es) r in
-      let up : 2 + n ≡ suc (suc n) = omega arith in
-      let ops : take n ((firsts es ++ seconds es) ++ r) ≡ firsts es = ap (take n) both ∙ take-at (firsts es) _ n (length-map es _) in
-      let args : take n (drop (2 + n) words) ≡ seconds es =
-      ap (λ (k : ℕ). take n (drop k words)) up
-      ∙ ap (λ (l : List ℕ). take n (drop n l)) both
-      ∙ ap (take n) (drop-at (firsts es) _ n (length-map es _))
-      ∙ take-at (seconds es) r n (length-map es _) in
-      ap₂ pairs ops args ∙ pairs-halves es
-
   -- a record in a longer array is printed as its lines
   pub lines-printed : (n : ℕ) (ls : List (Line At)) (out : List ℕ) → out ≡ lent n (statement-record entry ls) → entries-text (entries-of out) ≡ lines-text entry ls
-  unfolding lent
-  lines-printed n ls out e = ap (λ (l : List ℕ). entries-text (entries-of l)) e ∙ ap entries-text (entries-front ls _) ∙ text-lines ls
+  unfolding lent entries-of statement-record
+  lines-printed n ls out e = ap (λ (l : List ℕ). entries-text (entries-of l)) e ∙ ap entries-text (entries-front entry ls _) ∙ text-lines ls
 
   -- a record holds as many entries as it says, with whatever words behind it
   whole-front : (ls : List (Line At)) (r : List ℕ) → Whole (statement-record entry ls ++ r)

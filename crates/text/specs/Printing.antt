@@ -44,11 +44,6 @@ unfoldable pub first-text : List Entry → List ℕ
 first-text [] = []
 first-text (e ∷ es) = entry-text e ++ cond (ends es) (10 ∷ []) []
 
--- the text of entries
-unfoldable pub entries-text : List Entry → List ℕ
-entries-text [] = []
-entries-text (e ∷ es) = first-text (e ∷ es) ++ entries-text es
-
 -- a record's words hold as many entries as it says
 abbrev pub Whole : List ℕ → Type 0
 Whole ws = 2 + 2 * word ws 1 ≤ length ws

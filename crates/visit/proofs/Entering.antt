@@ -16,8 +16,7 @@ use Rattle.base.specs.Tests.{clash}
 use Rattle.base.specs.Answer.{split-answer}
 use Rattle.base.specs.Function.{FunctionFacts}
 use Rattle.statements.specs.declared.Out.{Out}
-use Rattle.body.specs.Uses.{uses, Tells, Gone, Passes}
-use Rattle.body.specs.declared.items.Passed.{Passed}
+use Rattle.body.specs.Uses.{uses, Tells, Gone, Passes, After}
 use Rattle.visit.specs.Memory.{Memory, enters, departs}
 use Rattle.visit.specs.Shares.{Arrays, Remembers, Alike}
 use Rattle.visit.specs.Visits.{Spoken, Visits}
@@ -74,13 +73,13 @@ module _ {Γ fn : List ℕ} {recording : Bool} where
   visits-later A s N = record { alike = alike-then A (N .alike); same = N .same ∙ s; denied = N .denied; over = N .over }
 
   -- the items were passed
-  pub passes-gone : {out out′ : List ℕ} {o : Out} {a : Answer (Forest × List (Line At))} {r : Passed} → Passes Γ fn recording out o out′ a r → r .refusal ≡ 0
+  pub passes-gone : {out out′ : List ℕ} {o : Out} {a : Answer (Forest × List (Line At))} {r : After} → Passes Γ fn recording out o out′ a r → r .refusal ≡ 0
       → (w : Forest × List (Line At)) × (a ≡ done w) × Gone Γ fn recording out o out′ w r
   passes-gone {a} P z = split-answer a (λ n e. absurd ((P .denied n e) .1 (sym ((P .denied n e) .0) ∙ z))) (λ w e. (w, e, P .gone w e))
 
   module _ (n : ℕ) {b : ℕ} (l : b < nblocks fn) (E : Forest) (m : Memory) {x : Arrays} {out out′ : List ℕ} where
     -- the items are refused
-    pub enter-refused : {o : Out} {r : Passed} → Passes Γ fn recording out o out′ (uses Γ fn false (stop fn b - start fn b) (start fn b) E) r → r .refusal ≢ 0
+    pub enter-refused : {o : Out} {r : After} → Passes Γ fn recording out o out′ (uses Γ fn false (stop fn b - start fn b) (start fn b) E) r → r .refusal ≢ 0
         → Visits Γ fn recording x out (enters Γ fn recording (suc n) b E m) x out′ (Refused (r .refusal))
     enter-refused P d = split-answer (uses Γ fn false (stop fn b - start fn b) (start fn b) E)
         (λ k e. visits-refused (enters-uses Γ fn recording n b E m l ∙ rw (e, ← (P .denied k e) .0) refl) (alike-same x) (P .same))

@@ -6,11 +6,10 @@ use mathlib.Core.List.{List}
 use mathlib.Core.Option.{Option, none, some}
 use Prim.Native.Nat.{ℕ, suc, _-_, _≤_}
 use native.Mathlib.Omega.{arith}
-use lib.ListN.{length, drop, take, length-replicate}
-use lib.Seq.{length-take-le}
+use lib.ListN.{length, length-replicate}
 use Rattle.model.specs.Tree.{Forest, sizes}
 use Rattle.model.specs.State as Model
-use Rattle.model.specs.State.{most, zeros, encode, padded, locals-ok}
+use Rattle.model.specs.State.{most, encode, locals-ok}
 use Rattle.model.specs.Function.{function-ok, local-types}
 use Rattle.base.specs.Tests.{and-left, and-right}
 use Rattle.base.specs.Kinds.{Known}
@@ -18,9 +17,9 @@ use Rattle.records.specs.Here.{Holds}
 use Rattle.records.specs.Holds.{holds-few, holds-encode, encode-holds}
 use Rattle.records.specs.Decode.{holds-unique}
 use Rattle.records.specs.Shape.{encode-shaped, encode-nodes}
-use Rattle.records.specs.Pairs.{padded-take}
 use Rattle.laws.specs.Valid.{Valid}
 use Rattle.state.specs.Spliced.{fronted}
+use Rattle.state.proofs.Fronted.{fronted-is}
 use Rattle.state.specs.Value.{value}
 use Rattle.state.specs.declared.nodes.State.{State}
 use Rattle.body.specs.Given.{Accepted}
@@ -30,13 +29,6 @@ use Rattle.visit.specs.Shares.{Full, Saved}
 pub accepted-locals : {Γ os fn : List ℕ} → Accepted Γ os fn → locals-ok Γ (local-types fn) ≡ true
 unfolding function-ok
 accepted-locals a = let e = a .function in search (and-left, and-right)
-
--- the first n words of what is zero past them
-fronted-is : (l : List ℕ) (n : ℕ) → n ≤ most → length l ≡ most → zeros (drop n l) ≡ true → fronted l n ≡ l
-unfolding fronted padded
-fronted-is l n h e z =
-    let long : length (take n l) ≡ n = length-take-le n l (omega arith) in
-    rw long at (padded-take l n h e z)
 
 -- a state held is one of a run
 pub holds-valid : {Γ locals : List ℕ} {s : Model.State} {E : Forest} → Holds Γ locals s E → Valid Γ locals E

@@ -23,6 +23,11 @@ use Rattle.visit.specs.Shares.{Full, Arrays, Remembers, Alike}
 use Rattle.visit.specs.declared.block.Visit.{Visit}
 use Rattle.visit.specs.declared.block.Visit.the-variants.{Over, Refused}
 
+-- r tells whether P holds
+pub record Tests (r : Bool) (P : Type 0) : Type 0 where
+  pub holds : r ≡ true → P
+  pub fails : r ≡ false → P → ⊥
+
 -- THE BUFFER
 
 -- the lines so far stand in the buffer, if the pass records

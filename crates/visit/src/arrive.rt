@@ -1,6 +1,5 @@
 // Arrivals at a join point, whose share of the store is lent: `goto_join_point` of both passes.
 ghost use mathlib.Core.Path.{_≡_};
-ghost use mathlib.Core.Bool.{true};
 ghost use mathlib.Core.Option.{Option};
 ghost use Prim.Native.Nat.{suc, _<_};
 ghost use lib.ListN.{length};
@@ -13,7 +12,7 @@ ghost use Rattle.statements.specs.Kept.{Counted};
 ghost use Rattle.body.specs.Given.{Accepted, Stated};
 ghost use Rattle.body.specs.Uses.{point};
 ghost use Rattle.visit.specs.Shares.{Saved};
-ghost use Rattle.visit.specs.Visits.{takes, owed, Arrives, Reconciles};
+ghost use Rattle.visit.specs.Visits.{Tests, takes, owed, Arrives, Reconciles};
 use crate::block::Visit;
 use body::items::point_of;
 use collect::states::Collected;
@@ -26,19 +25,13 @@ use state::nodes::State;
 use state::share::load_state;
 use state::share::save_state;
 use statements::Out;
+use statements::small;
 use type_record::record::wide;
-
-fn small(n: usize) -> u32
-    requires { ⌜ n < 4294967296 ⌝ }
-    ensures { λ r. ⌜ r ≡ n ⌝ }
-{
-    (n % 4294967296) as u32
-}
 
 // Are these words the same?
 fn same_words(a: &[u16], b: &[u16]) -> bool
     requires { ⌜ length (now a) ≡ length (now b) ⌝ }
-    ensures { λ r. ⌜ (r ≡ true → now (a .entry) ≡ now (b .entry)) ⌝ }
+    ensures { λ r. ⌜ Tests r (now (a .entry) ≡ now (b .entry)) ⌝ }
 {
     let n = a.len();
     let mut i = 0;
@@ -54,7 +47,7 @@ fn same_words(a: &[u16], b: &[u16]) -> bool
 // Is the state the one that stands in this share, whose count is k?
 fn stands(k: u32, s: State, forms: &[u16], whats: &[u16]) -> bool
     requires { ⌜ (length (now forms) ≡ 512) × (length (now whats) ≡ 512) ⌝ }
-    ensures { λ r. ⌜ (r ≡ true → (k ≡ suc (s .nodes)) × (now (forms .entry) ≡ s .forms) × (now (whats .entry) ≡ s .whats)) ⌝ }
+    ensures { λ r. ⌜ Tests r ((k ≡ suc (s .nodes)) × (now (forms .entry) ≡ s .forms) × (now (whats .entry) ≡ s .whats)) ⌝ }
 {
     if k == 0 {
         return false;

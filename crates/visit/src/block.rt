@@ -9,7 +9,7 @@ ghost use Rattle.model.specs.Block.{is-join-point};
 ghost use Rattle.model.specs.Frame.{mark};
 ghost use Rattle.records.specs.Here.{Holds};
 ghost use Rattle.blocks.specs.Points.{share-number};
-ghost use Rattle.state.specs.Value.{value};
+ghost use Rattle.state.specs.Value.{value, state-in};
 ghost use Rattle.statements.specs.Kept.{Counted};
 ghost use Rattle.body.specs.Given.{Accepted, Stated};
 ghost use Rattle.body.specs.Uses.{Tells};
@@ -232,13 +232,33 @@ pub fn basic_block(
 {
     let from = start_of(fun, b);
     let end = stop_of(fun, b);
-    let r = pass_items(types, offs, fun, from, end, false, s, recording, out, o);
+    let mut fs = s.forms;
+    let mut ws = s.whats;
+    let r = pass_items(
+        types,
+        offs,
+        fun,
+        from,
+        end,
+        false,
+        &mut fs,
+        &mut ws,
+        s.nodes,
+        recording,
+        out,
+        o,
+    );
     if r.refusal != 0 {
         return Visit::Refused(r.refusal);
     }
-    let t = r.state;
+    let n = r.nodes;
     let q = r.out;
     if op_of(fun, end - 1) == 11 {
+        let t = State {
+            forms: fs,
+            whats: ws,
+            nodes: n,
+        };
         return Visit::Over(returned(types, offs, fun, end - 1, t, recording, out, q));
     }
     terminator(
@@ -257,13 +277,15 @@ pub fn basic_block(
         b,
         from,
         end,
-        t,
+        &fs,
+        &ws,
+        n,
         q,
     )
 }
 
-// The ender of the block b: it is left by its targets, in the state s that its items leave. All arms of a match are tried first.
-fn terminator(
+// The ender of the block b: it is left by its targets, in the state that its items leave in fs and ws, of n nodes. All arms of a match are tried first.
+fn terminator<'a>(
     types: &[u32],
     offs: &[u32],
     fun: &[u32],
@@ -279,7 +301,9 @@ fn terminator(
     b: usize,
     from: usize,
     end: usize,
-    s: State,
+    fs: &'a [u16],
+    ws: &'a [u16],
+    n: usize,
     o: Out,
 ) -> Visit
     requires { ⌜ Accepted (now types) (now offs) (now fun) ⌝ }
@@ -287,18 +311,18 @@ fn terminator(
     requires { ⌜ Ongoing (now types) (now fun) recording (arrays (now kept) (now visited) (now waits) (now forms) (now whats)) (now out) o ⌝ }
     requires { ⌜ b < nblocks (now fun) ⌝ }
     requires { ⌜ (from ≡ start (now fun) b) × (end ≡ stop (now fun) b) ⌝ }
-    requires { ⌜ Stated (now types) (local-types (now fun)) s ⌝ }
-    ensures { λ r. ⌜ ((m : Memory) (E : Forest) → Remembers (now (types .entry)) (now (fun .entry)) m (arrays (now (kept .entry)) (now (visited .entry)) (now (waits .entry)) (now (forms .entry)) (now (whats .entry))) → Spoken (now (fun .entry)) recording (m .lines) (now (out .entry)) o → Holds (now (types .entry)) (local-types (now (fun .entry))) (value s) E → Visits (now (types .entry)) (now (fun .entry)) recording (arrays (now (kept .entry)) (now (visited .entry)) (now (waits .entry)) (now (forms .entry)) (now (whats .entry))) (now (out .entry)) (departs (now (types .entry)) (now (fun .entry)) recording left b E m) (arrays (now (kept .exit)) (now (visited .entry)) (now (waits .exit)) (now (forms .exit)) (now (whats .exit))) (now (out .exit)) r) ⌝ }
+    requires { ⌜ Stated (now types) (local-types (now fun)) (state-in (now fs) (now ws) n) ⌝ }
+    ensures { λ r. ⌜ ((m : Memory) (E : Forest) → Remembers (now (types .entry)) (now (fun .entry)) m (arrays (now (kept .entry)) (now (visited .entry)) (now (waits .entry)) (now (forms .entry)) (now (whats .entry))) → Spoken (now (fun .entry)) recording (m .lines) (now (out .entry)) o → Holds (now (types .entry)) (local-types (now (fun .entry))) (value (state-in (now (fs .entry)) (now (ws .entry)) n)) E → Visits (now (types .entry)) (now (fun .entry)) recording (arrays (now (kept .entry)) (now (visited .entry)) (now (waits .entry)) (now (forms .entry)) (now (whats .entry))) (now (out .entry)) (departs (now (types .entry)) (now (fun .entry)) recording left b E m) (arrays (now (kept .exit)) (now (visited .entry)) (now (waits .exit)) (now (forms .exit)) (now (whats .exit))) (now (out .exit)) r) ⌝ }
 {
-    let p = plan_of(types, offs, fun, b, from, end, s);
-    if let Plan::Refused(n) = p {
-        return Visit::Refused(n);
+    let p = plan_of(types, offs, fun, b, from, end, fs, ws, n);
+    if let Plan::Refused(k) = p {
+        return Visit::Refused(k);
     }
     let mut q = o;
     let mut i = from;
     while i < end {
         if op_of(fun, i) == 10 {
-            let u = target_state(types, offs, fun, p, i, s);
+            let u = target_state(types, offs, fun, p, i, fs, ws, n);
             let c = wide(arg_of(fun, i));
             let v = goto(
                 types,
@@ -322,8 +346,8 @@ fn terminator(
                 Visit::Over(w) => {
                     q = w;
                 }
-                Visit::Refused(n) => {
-                    return Visit::Refused(n);
+                Visit::Refused(k) => {
+                    return Visit::Refused(k);
                 }
             }
         }

@@ -1,21 +1,20 @@
--- A walk carried out on a state: there is room for what it opens (`opens-room`), and what is written is what it opens, with a last
--- step (`carried-last`) or none (`carried-none`).
+-- A walk carried out on a state: a gap is made (`opens-gap`), there is room for what it opens (`opens-room`), and what is written
+-- is what it opens, with a last step (`carried-last`) or none (`carried-none`).
 use mathlib.Core.Path.{_≡_, refl, sym, _∙_, ap, subst}
 use mathlib.Core.Logic.{_≢_}
 use mathlib.Core.List.{List, [], _∷_, _++_}
 use Prim.Native.Nat.{ℕ, suc, _+_, _<_, _≤_}
 use native.Mathlib.Omega.{arith}
 use native.Mathlib.Decide.{ℕ-discrete}
-use lib.ListN.{length, length-append, length-map}
+use lib.ListN.{length, length-append}
 use Rattle.model.specs.Types.{ntypes, kind, form}
 use Rattle.model.specs.Tree.{size}
 use Rattle.model.specs.State.{Code}
 use Rattle.model.specs.Block.{elem-of}
 use Rattle.base.specs.Typed.{Typed}
-use Rattle.records.specs.Here.{firsts, seconds}
-use Rattle.records.specs.Pairs.{length-padded}
 use Rattle.records.specs.Codes.{size-pos}
-use Rattle.state.specs.Spliced.{Replaced}
+use Rattle.state.specs.Spliced.{splice, Replaced}
+use Rattle.state.specs.Value.{state-in}
 use Rattle.state.specs.declared.nodes.State.{State}
 use Rattle.walk.specs.Fresh.{folded, bud, sprout, stub, variant, mark, trail}
 use Rattle.walk.specs.Applied.{Encoded, Inked, Room, Penned, Opens, Carried, marked, filled, tip, opening}
@@ -25,21 +24,20 @@ use Rattle.walk.specs.declared.along.Walk.{Walk}
 use Rattle.walk.specs.declared.apply.Pen.{Pen}
 use Rattle.walk.proofs.Growing.{Sprig, sprig-to, Sprung, Sprouted, sprouted}
 use Rattle.walk.proofs.Sites.{bud-folded}
-use Rattle.walk.proofs.Inks.{inked-none, inked-encoded}
+use Rattle.walk.proofs.Inks.{encoded-long, inked-none, inked-encoded}
 use Rattle.walk.proofs.Turns.{to-same, stub-short, mark-form, mark-what, inked-marked}
 use Rattle.walk.proofs.Ends.{tip-none, tip-last}
 
--- a state that has codes has two full arrays
-encoded-long : {s : State} {cs : List Code} → Encoded s cs → (length (s .forms) ≡ 512) × (length (s .whats) ≡ 512)
-encoded-long {cs = cs} E = (
-  ap length (E .forms) ∙ length-padded (firsts cs) (omega (arith, E .few, length-map cs (λ c. c .0))),
-  ap length (E .whats) ∙ length-padded (seconds cs) (omega (arith, E .few, length-map cs (λ c. c .1))),
-)
-
 module _ {Γ ops args : List ℕ} {s : State} {w : Walk} {o a : ℕ} (h : Typed Γ) (O : Opens Γ ops args s w o a) where
-  -- where the folded node stands
-  pub opens-node : (w .node + 1 ≤ s .nodes) × (s .nodes ≤ 512)
-  opens-node = (omega (arith, O .at, O .coded .nodes, length-append (O .front) ((0, 0) ∷ O .back)), omega (arith, O .room))
+  -- where the folded node stands, and that there is room for a gap
+  pub opens-node : (w .node < s .nodes) × (0 < 1 + w .fresh .added) × (s .nodes + (1 + w .fresh .added) ≤ 513)
+  opens-node = (omega (arith, O .at, O .coded .nodes, length-append (O .front) ((0, 0) ∷ O .back)), omega arith, omega (arith, O .room))
+
+  -- the state of two arrays that have the gap
+  pub opens-gap : {fs ws : List ℕ} → fs ≡ splice (s .forms) (w .node) (1 + w .fresh .added) (w .node + 1) (s .nodes)
+      → ws ≡ splice (s .whats) (w .node) (1 + w .fresh .added) (w .node + 1) (s .nodes)
+      → Replaced s (w .node) (w .node + 1) (1 + w .fresh .added) (state-in fs ws (s .nodes + w .fresh .added))
+  opens-gap f g = record { forms = f; whats = g; nodes = omega (arith, opens-node) }
 
   -- the walk by types
   opens-sprung : Sprung Γ (folded (w .typ) 0) (opening ops args w) (O .before)
@@ -98,27 +96,29 @@ module _ {Γ ops args : List ℕ} {s : State} {w : Walk} {o a : ℕ} (h : Typed 
       pub pen-known : p .fresh .typ < ntypes Γ
       pen-known = rw (penned .fresh) (opens-sprung .fine .known)
 
-      -- within the state
-      pub pen-within : p .at < 512
-      pen-within = omega (arith, penned .at, past-few, opens-node, O .room)
+      -- within the arrays
+      pub pen-within : length fs ≡ length (r .forms) → length ws ≡ length (r .whats) → (p .at < length fs) × (p .at < length ws)
+      pen-within f g =
+          let n : p .at < 512 = omega (arith, penned .at, past-few, opens-node) in
+          (omega (arith, gapped .0), omega (arith, gapped .1))
 
       -- a state with these codes between those of the others
       carried : {fs′ ws′ : List ℕ} (cs : List Code) → past ++ tip Γ (O .before) o a ≡ cs → length cs ≤ suc (w .fresh .added)
           → Inked (λ c. c .0) (w .node) (1 + w .fresh .added) (r .forms) fs′ cs → Inked (λ c. c .1) (w .node) (1 + w .fresh .added) (r .whats) ws′ cs
-          → Carried Γ ops args s w o a (record { forms = fs′; whats = ws′; nodes = r .nodes })
+          → Carried Γ ops args s w o a (state-in fs′ ws′ (r .nodes))
       carried {fs′} {ws′} cs d l kf kw =
           record {
             coded = λ b e f E at g.
                 let same : O .before ≡ f = to-same (sym (O .leads) ∙ g) in
                 let c : cs ≡ past ++ tip Γ f o a = sym d ∙ ap (λ (k : Fresh). past ++ tip Γ k o a) same in
                 let n : 1 + w .fresh .added ≡ suc (w .fresh .added) = omega arith in
-                subst (λ (ks : List Code). Encoded (record { forms = fs′; whats = ws′; nodes = r .nodes }) (b ++ (ks ++ e)))
+                subst (λ (ks : List Code). Encoded (state-in fs′ ws′ (r .nodes)) (b ++ (ks ++ e)))
                 (ap (filled cs) n ∙ ap (λ (ks : List Code). filled ks (suc (w .fresh .added))) c)
                 (inked-encoded s r fs′ ws′ b ((0, 0) ∷ []) e cs (w .node) (w .node + 1) (1 + w .fresh .added) E at refl R kf kw (omega arith) (omega (arith, O .room)));
           }
 
       -- no last step
-      pub carried-none : o ≡ 0 → Carried Γ ops args s w o a (record { forms = fs; whats = ws; nodes = r .nodes })
+      pub carried-none : o ≡ 0 → Carried Γ ops args s w o a (state-in fs ws (r .nodes))
       carried-none e =
           let m : suc (O .before .added) ≤ 1 + w .fresh .added = omega (arith, opens-more) in
           carried (past ++ stub Γ (O .before)) (ap (λ (k : ℕ). past ++ tip Γ (O .before) k a) e ∙ ap (λ (l : List Code). past ++ l) (tip-none Γ (O .before) a))
@@ -126,7 +126,7 @@ module _ {Γ ops args : List ℕ} {s : State} {w : Walk} {o a : ℕ} (h : Typed 
 
       -- a last step
       pub carried-last : o ≢ 0 → {fs′ ws′ : List ℕ} → fs′ ≡ marked (p .fresh .opened) fs (p .at) (form (kind Γ (p .fresh .typ)))
-          → ws′ ≡ marked (p .fresh .opened) ws (p .at) (variant (elem-of o a)) → Carried Γ ops args s w o a (record { forms = fs′; whats = ws′; nodes = r .nodes })
+          → ws′ ≡ marked (p .fresh .opened) ws (p .at) (variant (elem-of o a)) → Carried Γ ops args s w o a (state-in fs′ ws′ (r .nodes))
       carried-last n {fs′} {ws′} ef ew =
           let f : Fresh = O .before in
           let k : ℕ = 1 + w .fresh .added in

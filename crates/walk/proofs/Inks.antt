@@ -1,12 +1,14 @@
 -- Codes written over zeros, one after another (`Inked`); and what is written over a folded node of a state (`Encoded`).
-use mathlib.Core.Path.{_≡_, refl, sym, _∙_, ap, ap₂}
+use mathlib.Core.Path.{_≡_, refl, sym, _∙_, ap, ap₂, subst}
 use mathlib.Core.List.{List, [], _∷_, _++_, map, append-assoc, map-append}
 use Prim.Native.Nat.{ℕ, zero, suc, _+_, _-_, _<_, _≤_}
 use native.Mathlib.Omega.{arith}
 use lib.ListN.{length, set, replicate, take, drop, length-append, length-map, length-replicate, replicate-append-replicate}
 use lib.Seq.{set-at, take-at, drop-at}
 use Rattle.model.specs.State.{Code, padded}
-use Rattle.state.specs.Spliced.{splice, Replaced}
+use Rattle.records.specs.Here.{firsts, seconds}
+use Rattle.records.specs.Pairs.{length-padded, take-padded}
+use Rattle.state.specs.Spliced.{fronted, splice, Replaced}
 use Rattle.state.specs.declared.nodes.State.{State}
 use Rattle.walk.specs.Applied.{Encoded, Inked, filled}
 use Rattle.walk.proofs.Frames.{zeros}
@@ -50,6 +52,25 @@ module _ (h : Code → ℕ) (i n : ℕ) (l : List ℕ) where
       ∙ rw (left, map-append h cs (zeros k), map-zeros h z k) (simp append-assoc)
 
 -- A STATE'S RECORD
+
+-- a state that has codes has two full arrays
+pub encoded-long : {s : State} {cs : List Code} → Encoded s cs → (length (s .forms) ≡ 512) × (length (s .whats) ≡ 512)
+encoded-long {cs = cs} E = (
+  ap length (E .forms) ∙ length-padded (firsts cs) (omega (arith, E .few, length-map cs (λ c. c .0))),
+  ap length (E .whats) ∙ length-padded (seconds cs) (omega (arith, E .few, length-map cs (λ c. c .1))),
+)
+
+-- zeros stand behind a list of n that is padded
+padded-fronted : (l : List ℕ) (n : ℕ) → length l ≡ n → padded l ≡ fronted (padded l) n
+unfolding padded fronted
+padded-fronted l n e = ap (λ (k : ℕ). l ++ replicate (512 - k) 0) e ∙ ap (λ (a : List ℕ). a ++ replicate (512 - n) 0) (sym (take-padded l n e))
+
+-- zeros stand behind its codes
+pub encoded-fronted : {s : State} {cs : List Code} → Encoded s cs → (s .forms ≡ fronted (s .forms) (s .nodes)) × (s .whats ≡ fronted (s .whats) (s .nodes))
+encoded-fronted {s} {cs} E = (
+  subst (λ (a : List ℕ). a ≡ fronted a (s .nodes)) (sym (E .forms)) (padded-fronted (firsts cs) (s .nodes) (length-map cs (λ c. c .0) ∙ sym (E .nodes))),
+  subst (λ (a : List ℕ). a ≡ fronted a (s .nodes)) (sym (E .whats)) (padded-fronted (seconds cs) (s .nodes) (length-map cs (λ c. c .1) ∙ sym (E .nodes))),
+)
 
 -- codes between others, padded: what is before them
 front-padded : (b y e : List ℕ) (i : ℕ) → length b ≡ i → take i (padded (b ++ (y ++ e))) ≡ b

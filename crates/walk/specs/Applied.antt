@@ -7,10 +7,11 @@ use Prim.Native.Nat.{ℕ, suc, _+_, _-_, _≤_, _<_}
 use lib.ListN.{length, set, replicate}
 use lib.Dec.{eqb}
 use Rattle.model.specs.Types.{ntypes}
-use Rattle.model.specs.State.{Code, padded}
+use Rattle.model.specs.Tree.{Tree}
+use Rattle.model.specs.State.{Code, codes, padded}
 use Rattle.model.specs.Place.{Place}
 use Rattle.model.specs.Block.{elem-of}
-use Rattle.records.specs.Here.{firsts, seconds}
+use Rattle.records.specs.Here.{Coded, firsts, seconds}
 use Rattle.state.specs.declared.nodes.State.{State}
 use Rattle.laws.specs.Places.{no-index}
 use Rattle.walk.specs.Way.{route}
@@ -85,3 +86,16 @@ pub record Carried (Γ ops args : List ℕ) (s : State) (w : Walk) (last last-ar
   pub coded : (b e : List Code) (f : Fresh) → Encoded s (b ++ ((0, 0) ∷ e)) → length b ≡ w .node
       → sprout Γ (folded (w .typ) 0) (opening ops args w) ≡ To f
       → Encoded r (b ++ (filled (trail Γ (folded (w .typ) 0) (opening ops args w) ++ tip Γ f last last-arg) (suc (w .fresh .added)) ++ e))
+
+-- the node at i of the state s, of type t, is to be folded: its codes stand between those of the others
+pub record Folds (Γ : List ℕ) (s : State) (i t : ℕ) : Type 0 where
+  pub tree : Tree
+  pub here : Coded Γ (s .forms) (s .whats) i t tree
+  pub front : List Code
+  pub back : List Code
+  pub coded : Encoded s (front ++ (codes Γ tree ++ back))
+  pub at : length front ≡ i
+
+-- it is: r has one folded node's code in the place of its codes
+pub record Folded (Γ : List ℕ) (s : State) (i t : ℕ) (r : State) : Type 0 where
+  pub coded : (b e : List Code) (x : Tree) → Coded Γ (s .forms) (s .whats) i t x → Encoded s (b ++ (codes Γ x ++ e)) → length b ≡ i → Encoded r (b ++ ((0, 0) ∷ e))

@@ -1,19 +1,16 @@
 // Carrying out what a walk has found: nodes opened on the way, a node folded.
 ghost use mathlib.Core.Path.{_≡_};
-ghost use mathlib.Core.Bool.{true, false};
-ghost use mathlib.Core.List.{List, _∷_, _++_};
-ghost use Prim.Native.Nat.{_+_, _-_, _<_, _≤_};
+ghost use mathlib.Core.Bool.{true};
+ghost use Prim.Native.Nat.{_-_, _<_, _≤_};
 ghost use lib.ListN.{length};
 ghost use Rattle.model.specs.Types.{ntypes, kind, form};
-ghost use Rattle.model.specs.Tree.{Tree, size};
-ghost use Rattle.model.specs.State.{Code, codes};
 ghost use Rattle.model.specs.Block.{elem-of};
 ghost use Rattle.laws.specs.Places.{no-index};
-ghost use Rattle.records.specs.Here.{Coded, Here};
 ghost use Rattle.type_record.specs.Sizes.{Sized, Ready};
+ghost use Rattle.state.specs.Value.{state-in};
 ghost use Rattle.walk.specs.Way.{route};
 ghost use Rattle.walk.specs.Fresh.{folded, sprout, distance, variant};
-ghost use Rattle.walk.specs.Applied.{Encoded, marked, Room, Penned, Opens, Carried};
+ghost use Rattle.walk.specs.Applied.{marked, Room, Penned, Opens, Carried, Folds, Folded};
 ghost use Rattle.walk.specs.declared.step.Fresh.{Fresh};
 ghost use Rattle.walk.specs.declared.step.Opened.the-variants.{To};
 use crate::along::Walk;
@@ -23,8 +20,8 @@ use crate::step::FIELD;
 use crate::step::Fresh;
 use crate::step::Opened;
 use crate::step::step_folded;
-use state::edit::replaced;
-use state::nodes::State;
+use state::edit::close_up;
+use state::edit::make_room;
 use state::nodes::node_end;
 use type_record::kinds::form_of;
 use type_record::record::kind_of;
@@ -130,26 +127,28 @@ fn write_path(
     Pen { at: p, fresh: f }
 }
 
-// The state in which a walk's nodes are open, and then one more, if last is not 0. w has the walk with the last step.
-pub fn opened(
+// A walk's nodes are opened, and then one more, if last is not 0. w has the walk with the last step. The nodes there are then.
+pub fn open_nodes(
     types: &[u32],
     offs: &[u32],
-    s: State,
+    forms: &mut [u16],
+    whats: &mut [u16],
+    nodes: usize,
     w: Walk,
     ops: &[u32],
     args: &[u32],
     last: u32,
     last_arg: u32,
-) -> State
+) -> usize
     requires { ⌜ Ready (now types) (now offs) ⌝ }
-    requires { ⌜ Opens (now types) (now ops) (now args) s w last «last_arg» ⌝ }
-    ensures { λ r. ⌜ Carried (now (types .entry)) (now (ops .entry)) (now (args .entry)) s w last «last_arg» r ⌝ }
+    requires { ⌜ Opens (now types) (now ops) (now args) (state-in (now forms) (now whats) nodes) w last «last_arg» ⌝ }
+    ensures { λ r. ⌜ Carried (now (types .entry)) (now (ops .entry)) (now (args .entry)) (state-in (now (forms .entry)) (now (whats .entry)) nodes) w last «last_arg» (state-in (now (forms .exit)) (now (whats .exit)) r) ⌝ }
 {
     let i = w.node;
     let f = w.fresh;
-    let r = replaced(s, i, i + 1, 1 + f.added);
-    let mut forms = r.forms;
-    let mut whats = r.whats;
+    let gap = 1 + f.added;
+    make_room(forms, nodes, i, gap);
+    make_room(whats, nodes, i, gap);
     let p = write_path(
         types,
         offs,
@@ -159,30 +158,34 @@ pub fn opened(
         w.walked,
         i,
         w.typ,
-        &mut forms,
-        &mut whats,
+        forms,
+        whats,
     );
     if last != 0 {
         let at = p.at;
         let fresh = p.fresh;
-        write_open(types, fresh, last, last_arg, at, &mut forms, &mut whats);
+        write_open(types, fresh, last, last_arg, at, forms, whats);
     }
-    State {
-        forms,
-        whats,
-        nodes: r.nodes,
-    }
+    nodes + f.added
 }
 
-// The node at i, of type t, folded.
-pub fn fold_at(types: &[u32], offs: &[u32], s: State, i: usize, t: usize) -> State
+// The node at i, of type t, is folded. The nodes there are then.
+pub fn fold_at(
+    types: &[u32],
+    offs: &[u32],
+    forms: &mut [u16],
+    whats: &mut [u16],
+    nodes: usize,
+    i: usize,
+    t: usize,
+) -> usize
     requires { ⌜ Ready (now types) (now offs) ⌝ }
     requires { ⌜ t < ntypes (now types) ⌝ }
-    requires { ⌜ Here (now types) (s .forms) (s .whats) i t ⌝ }
-    requires { ⌜ s .nodes ≤ 512 ⌝ }
-    requires { ⌜ ((x : Tree) → Coded (now types) (s .forms) (s .whats) i t x → i + size x ≤ s .nodes) ⌝ }
-    ensures { λ r. ⌜ ((b e : List Code) (x : Tree) → Coded (now (types .entry)) (s .forms) (s .whats) i t x → Encoded s (b ++ (codes (now (types .entry)) x ++ e)) → length b ≡ i → Encoded r (b ++ ((0, 0) ∷ e))) ⌝ }
+    requires { ⌜ Folds (now types) (state-in (now forms) (now whats) nodes) i t ⌝ }
+    ensures { λ r. ⌜ Folded (now (types .entry)) (state-in (now (forms .entry)) (now (whats .entry)) nodes) i t (state-in (now (forms .exit)) (now (whats .exit)) r) ⌝ }
 {
-    let e = node_end(types, offs, &s.forms, &s.whats, i, t);
-    replaced(s, i, e, 1)
+    let e = node_end(types, offs, forms, whats, i, t);
+    close_up(forms, nodes, i, e);
+    close_up(whats, nodes, i, e);
+    nodes - (e - i) + 1
 }

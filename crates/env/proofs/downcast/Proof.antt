@@ -30,15 +30,21 @@ returns-2 c = let s = c .before .before .before .before .before .before .before 
 slice-aggregate-downcast : tie.Need-slice-aggregate-downcast
 slice-aggregate-downcast c = search needs
 
+slice-aggregate-downcast-2 : tie.Need-slice-aggregate-downcast-2
+slice-aggregate-downcast-2 c = search needs
+
+slice-aggregate-downcast-3 : tie.Need-slice-aggregate-downcast-3
+slice-aggregate-downcast-3 c = search needs
+
 downcast-requires : tie.Need-downcast-requires
 downcast-requires c κs =
-    let s = c .before .before .before .before .before .before .before .before .before .before .before .args in
-    let T = c .before .before .before .before .before .check-use .ensures in
-    (T .ready (c .before .before .before .if1 .left), (tested-locals T (c .before .before .before .if1 .left), tested-given T (c .before .before .before .if1 .left) (used-ok (length (s .locals .now))) (λ q e. sym (c .before .before .used-ok .ensures q e) ∙ not-false (c .before .before .used-ok .result) (c .before .if2 .left))))
+    let s = c .before .before .before .before .before .before .before .before .before .before .before .before .before .before .before .args in
+    let T = c .before .before .before .before .before .before .before .before .before .check-use .ensures in
+    (T .ready (c .before .before .before .before .before .before .before .if1 .left), (tested-locals T (c .before .before .before .before .before .before .before .if1 .left), tested-given T (c .before .before .before .before .before .before .before .if1 .left) (used-ok (length (s .locals .now))) (λ q e. sym (c .before .before .before .before .before .before .used-ok .ensures q e) ∙ not-false (c .before .before .before .before .before .before .used-ok .result) (c .before .before .before .before .before .if2 .left))))
 
 returns-3 : tie.Need-returns-3
 unfolding call-downcast
-returns-3 c = let s = c .before .before .before .before .before .before .before .before .before .before .before .before .args in gives-goes (c .before .before .before .before .before .before .check-use .ensures) (used-ok (length (s .locals .now))) (λ E q. downcasting (s .types .now) q (s .variant) E) (c .before .before .before .before .if1 .left) (λ q e. sym (c .before .before .before .used-ok .ensures q e) ∙ not-false (c .before .before .before .used-ok .result) (c .before .before .if2 .left)) (c .downcast .ensures)
+returns-3 c = let s = c .before .before .before .before .before .before .before .before .before .before .before .before .before .before .before .before .before .before .args in gives-goes (c .before .before .before .before .before .before .before .before .before .before .before .before .check-use .ensures) (used-ok (length (s .locals .now))) (λ E q. downcasting (s .types .now) q (s .variant) E) (c .before .before .before .before .before .before .before .before .before .before .if1 .left) (λ q e. sym (c .before .before .before .before .before .before .before .before .before .used-ok .ensures q e) ∙ not-false (c .before .before .before .before .before .before .before .before .before .used-ok .result) (c .before .before .before .before .before .before .before .before .if2 .left)) (c .before .before .downcast .ensures)
 
 pub downcast-spec : {M : Type 1} → statement M
 downcast-spec =
@@ -50,5 +56,7 @@ downcast-spec =
     used-ok-requires
     returns-2
     slice-aggregate-downcast
+    slice-aggregate-downcast-2
+    slice-aggregate-downcast-3
     downcast-requires
     returns-3)

@@ -30,15 +30,25 @@ returns-2 c = let s = c .before .before .before .before .before .before .before 
 slice-aggregate-fold : tie.Need-slice-aggregate-fold
 slice-aggregate-fold c = search needs
 
+slice-aggregate-fold-2 : tie.Need-slice-aggregate-fold-2
+slice-aggregate-fold-2 c = search needs
+
+slice-aggregate-fold-3 : tie.Need-slice-aggregate-fold-3
+slice-aggregate-fold-3 c = search needs
+
 fold-requires : tie.Need-fold-requires
 fold-requires c κs =
-    let s = c .before .before .before .before .before .before .before .before .before .before .before .args in
-    let T = c .before .before .before .before .before .check-use .ensures in
-    (T .ready (c .before .before .before .if1 .left), (tested-locals T (c .before .before .before .if1 .left), tested-given T (c .before .before .before .if1 .left) (fold-ok (length (s .locals .now))) (λ q e. sym (c .before .before .fold-ok .ensures q e) ∙ not-false (c .before .before .fold-ok .result) (c .before .if2 .left))))
+    let s = c .before .before .before .before .before .before .before .before .before .before .before .before .before .before .before .args in
+    let T = c .before .before .before .before .before .before .before .before .before .check-use .ensures in
+    let z = c .before .before .before .before .before .before .before .if1 .left in
+    (T .ready z, (tested-locals T z, tested-given T z (fold-ok (length (s .locals .now))) (λ q e. sym (c .before .before .before .before .before .before .fold-ok .ensures q e) ∙ not-false (c .before .before .before .before .before .before .fold-ok .result) (c .before .before .before .before .before .if2 .left))))
 
 returns-3 : tie.Need-returns-3
 unfolding call-carry statement-ok carrying
-returns-3 c = let s = c .before .before .before .before .before .before .before .before .before .before .before .before .args in gives-goes (c .before .before .before .before .before .before .check-use .ensures) (fold-ok (length (s .locals .now))) (λ E q. carrying (s .types .now) (s .locals .now) Fold q E) (c .before .before .before .before .if1 .left) (λ q e. sym (c .before .before .before .fold-ok .ensures q e) ∙ not-false (c .before .before .before .fold-ok .result) (c .before .before .if2 .left)) (c .fold .ensures)
+returns-3 c =
+    let s = c .before .before .before .before .before .before .before .before .before .before .before .before .before .before .before .before .before .before .args in
+    gives-goes (c .before .before .before .before .before .before .before .before .before .before .before .before .check-use .ensures) (fold-ok (length (s .locals .now))) (λ E q. carrying (s .types .now) (s .locals .now) Fold q E) (c .before .before .before .before .before .before .before .before .before .before .if1 .left)
+    (λ q e. sym (c .before .before .before .before .before .before .before .before .before .fold-ok .ensures q e) ∙ not-false (c .before .before .before .before .before .before .before .before .before .fold-ok .result) (c .before .before .before .before .before .before .before .before .if2 .left)) (c .before .before .fold .ensures)
 
 pub fold-spec : {M : Type 1} → statement M
 fold-spec =
@@ -50,5 +60,7 @@ fold-spec =
     fold-ok-requires
     returns-2
     slice-aggregate-fold
+    slice-aggregate-fold-2
+    slice-aggregate-fold-3
     fold-requires
     returns-3)

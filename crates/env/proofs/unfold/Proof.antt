@@ -30,16 +30,22 @@ returns-2 c = let s = c .before .before .before .before .before .before .before 
 slice-aggregate-unfold : tie.Need-slice-aggregate-unfold
 slice-aggregate-unfold c = search needs
 
+slice-aggregate-unfold-2 : tie.Need-slice-aggregate-unfold-2
+slice-aggregate-unfold-2 c = search needs
+
+slice-aggregate-unfold-3 : tie.Need-slice-aggregate-unfold-3
+slice-aggregate-unfold-3 c = search needs
+
 unfold-requires : tie.Need-unfold-requires
 unfolding unfold-ok
 unfold-requires c κs =
-    let s = c .before .before .before .before .before .before .before .before .before .before .before .args in
-    let T = c .before .before .before .before .before .check-use .ensures in
-    (T .ready (c .before .before .before .if1 .left), (tested-locals T (c .before .before .before .if1 .left), tested-given T (c .before .before .before .if1 .left) (unfold-ok (length (s .locals .now))) (λ q e. sym (c .before .before .spot-ok .ensures q e) ∙ not-false (c .before .before .spot-ok .result) (c .before .if2 .left))))
+    let s = c .before .before .before .before .before .before .before .before .before .before .before .before .before .before .before .args in
+    let T = c .before .before .before .before .before .before .before .before .before .check-use .ensures in
+    (T .ready (c .before .before .before .before .before .before .before .if1 .left), (tested-locals T (c .before .before .before .before .before .before .before .if1 .left), tested-given T (c .before .before .before .before .before .before .before .if1 .left) (unfold-ok (length (s .locals .now))) (λ q e. sym (c .before .before .before .before .before .before .spot-ok .ensures q e) ∙ not-false (c .before .before .before .before .before .before .spot-ok .result) (c .before .before .before .before .before .if2 .left))))
 
 returns-3 : tie.Need-returns-3
 unfolding call-carry statement-ok carrying unfold-ok
-returns-3 c = let s = c .before .before .before .before .before .before .before .before .before .before .before .before .args in gives-goes (c .before .before .before .before .before .before .check-use .ensures) (unfold-ok (length (s .locals .now))) (λ E q. carrying (s .types .now) (s .locals .now) Unfold q E) (c .before .before .before .before .if1 .left) (λ q e. sym (c .before .before .before .spot-ok .ensures q e) ∙ not-false (c .before .before .before .spot-ok .result) (c .before .before .if2 .left)) (c .«unfold» .ensures)
+returns-3 c = let s = c .before .before .before .before .before .before .before .before .before .before .before .before .before .before .before .before .before .before .args in gives-goes (c .before .before .before .before .before .before .before .before .before .before .before .before .check-use .ensures) (unfold-ok (length (s .locals .now))) (λ E q. carrying (s .types .now) (s .locals .now) Unfold q E) (c .before .before .before .before .before .before .before .before .before .before .if1 .left) (λ q e. sym (c .before .before .before .before .before .before .before .before .before .spot-ok .ensures q e) ∙ not-false (c .before .before .before .before .before .before .before .before .before .spot-ok .result) (c .before .before .before .before .before .before .before .before .if2 .left)) (c .before .before .«unfold» .ensures)
 
 pub unfold-spec : {M : Type 1} → statement M
 unfold-spec =
@@ -51,5 +57,7 @@ unfold-spec =
     spot-ok-requires
     returns-2
     slice-aggregate-unfold
+    slice-aggregate-unfold-2
+    slice-aggregate-unfold-3
     unfold-requires
     returns-3)

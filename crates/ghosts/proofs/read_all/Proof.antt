@@ -2,8 +2,7 @@
 use borrow.Author.Needs.{needs}
 use mathlib.Core.List.{[]}
 use native.Mathlib.Omega.{arith}
-use Rattle.ghosts.specs.Said.{Heard}
-use Rattle.ghosts.proofs.Hearing.{heard-more, heard-all}
+use Rattle.ghosts.proofs.Hearing.{Heard, heard-more, heard-all}
 use Rattle.ghosts.proofs.read_all.Statement.{statement}
 use Rattle.ghosts.proofs.read_all.Tie as tie
 

@@ -11,7 +11,7 @@ use Rattle.model.specs.Walk.{enum-at}
 use Rattle.model.specs.Function.{nitems, local-types}
 use Rattle.model.specs.Block.{spot-before, uses-place}
 use Rattle.records.specs.Here.{Holds}
-use Rattle.state.specs.Value.{value}
+use Rattle.state.specs.Value.{value, state-in}
 use Rattle.blocks.specs.Points.{matched-read}
 use Rattle.blocks.proofs.Spots.{block-stop}
 use Rattle.blocks.proofs.Points.{matched-holds}
@@ -33,55 +33,53 @@ enum-told c = search needs
 
 returns : tie.Need-returns
 returns c = λ E h.
-    let a = c .before .before .before .before .before .before .args in
+    let a = c .before .before .before .before .before .before .before .before .args in
     planned-plain (a .types .now) (a .fun .now) (a .b) E (item-none (matched-read (a .fun .now) (a .b)) (sym (c .before .before .matched .ensures) ∙ c .enum-told .given .1))
 
 -- the block matches on the read
-known : (c : tie.After-known-told) → matched-read (c .before .before .before .before .before .before .before .args .fun .now) (c .before .before .before .before .before .before .before .args .b) ≡ some (c .before .m .given .0 .0)
-known c = let a = c .before .before .before .before .before .before .before .args in item-some (matched-read (a .fun .now) (a .b)) (sym (c .before .before .before .matched .ensures) ∙ c .before .m .given .1)
+known : (c : tie.After-known-told) → matched-read (c .before .before .before .before .before .before .before .before .before .args .fun .now) (c .before .before .before .before .before .before .before .before .before .args .b) ≡ some (c .before .m .given .0 .0)
+known c = let a = c .before .before .before .before .before .before .before .before .before .args in item-some (matched-read (a .fun .now) (a .b)) (sym (c .before .before .before .matched .ensures) ∙ c .before .m .given .1)
 
 -- which is one of the record's items, and uses a place
-read : (c : tie.After-known-told) → (c .before .m .given .0 .0 < nitems (c .before .before .before .before .before .before .before .args .fun .now)) × (uses-place (c .before .before .before .before .before .before .before .args .fun .now) (c .before .m .given .0 .0) ≡ true)
+read : (c : tie.After-known-told) → (c .before .m .given .0 .0 < nitems (c .before .before .before .before .before .before .before .before .before .args .fun .now)) × (uses-place (c .before .before .before .before .before .before .before .before .before .args .fun .now) (c .before .m .given .0 .0) ≡ true)
 read c =
-    let p = c .before .before .before .before .before .before .before .pre in
+    let p = c .before .before .before .before .before .before .before .before .before .pre in
     let R = matched-holds (p .0 .formed) (p .1 .0) (known c) in
     (omega (arith, R .high, block-stop (p .0 .formed) (p .1 .0)), R .uses)
 
 root-before-requires : tie.Need-root-before-requires
-root-before-requires c κs = (c .before .before .before .before .before .before .before .pre .0 .formed .laid, omega (arith, read c .0))
-
-local-types-requires : tie.Need-local-types-requires
-local-types-requires c κs = search needs
+root-before-requires c κs = (c .before .before .before .before .before .before .before .before .before .pre .0 .formed .laid, omega (arith, read c .0))
 
 ops-from-requires : tie.Need-ops-from-requires
 ops-from-requires c κs =
-    let p = c .before .before .before .before .before .before .before .before .before .pre in
-    let r = read (c .before .before) in
-    (p .0 .formed .laid, place-range (p .0) (r .0) (r .1) (c .before .root-before .ensures))
+    let p = c .before .before .before .before .before .before .before .before .before .before .pre in
+    let r = read (c .before) in
+    (p .0 .formed .laid, place-range (p .0) (r .0) (r .1) (c .root-before .ensures))
 
 args-from-requires : tie.Need-args-from-requires
 args-from-requires c κs = ops-from-requires (c .before) κs
 
+local-types-requires : tie.Need-local-types-requires
+local-types-requires c κs = search needs
+
 enum-at-requires : tie.Need-enum-at-requires
 enum-at-requires c κs =
-    let p = c .before .before .before .before .before .before .before .before .before .before .before .pre in
+    let p = c .before .before .before .before .before .before .before .before .before .before .before .before .before .pre in
     let r = read (c .before .before .before .before) in
-    let e = c .before .before .before .root-before .ensures in (
-      p .0 .ready,
-      (
-        place-locals (p .0) (r .0) (r .1) e _ _ _ (c .before .before .local-types .ensures) (c .before .ops-from .ensures) (c .args-from .ensures),
-        place-given (p .0) (r .0) (r .1) e _ _ _ (c .before .before .local-types .ensures) (c .before .ops-from .ensures) (c .args-from .ensures) (p .1 .1 .1),
-      ),
-    )
+    let e = c .before .before .before .root-before .ensures in
+    let z = c .local-types .ensures in
+    let o = c .before .before .ops-from .ensures in
+    let a = c .before .args-from .ensures in
+    (p .0 .ready, (place-locals (p .0) (r .0) (r .1) e _ _ _ z o a, (_, place-given (p .0) (r .0) (r .1) e _ _ _ z o a (p .1 .1 .1))))
 
 -- what the walk answers
-walked : (c : tie.After-enum-at) (E : Forest) → Holds (c .before .before .before .before .before .before .before .before .before .before .before .before .args .types .now) (local-types (c .before .before .before .before .before .before .before .before .before .before .before .before .args .fun .now)) (value (c .before .before .before .before .before .before .before .before .before .before .before .before .args .s)) E
-    → c .enum-at .result ≡ enum-of (enum-at (c .before .before .before .before .before .before .before .before .before .before .before .before .args .types .now) (spot-before (c .before .before .before .before .before .before .before .before .before .before .before .before .args .fun .now) (c .before .before .before .before .before .before .m .given .0 .0)) E)
+walked : (c : tie.After-enum-at) (E : Forest) → Holds (c .before .before .before .before .before .before .before .before .before .before .before .before .before .before .args .types .now) (local-types (c .before .before .before .before .before .before .before .before .before .before .before .before .before .before .args .fun .now)) (value (state-in (c .before .before .before .before .before .before .before .before .before .before .before .before .before .before .args .forms .now) (c .before .before .before .before .before .before .before .before .before .before .before .before .before .before .args .whats .now) (c .before .before .before .before .before .before .before .before .before .before .before .before .before .before .args .nodes))) E
+    → c .enum-at .result ≡ enum-of (enum-at (c .before .before .before .before .before .before .before .before .before .before .before .before .before .before .args .types .now) (spot-before (c .before .before .before .before .before .before .before .before .before .before .before .before .before .before .args .fun .now) (c .before .before .before .before .before .before .m .given .0 .0)) E)
 walked c E h =
-    let p = c .before .before .before .before .before .before .before .before .before .before .before .before .pre in
+    let p = c .before .before .before .before .before .before .before .before .before .before .before .before .before .before .pre in
     let r = read (c .before .before .before .before .before) in
-    let z = c .before .before .before .local-types .ensures in
-    c .enum-at .ensures E _ (rw z h) (place-spot (p .0) (r .0) (r .1) (c .before .before .before .before .root-before .ensures) _ _ _ z (c .before .before .ops-from .ensures) (c .before .args-from .ensures))
+    let z = c .before .local-types .ensures in
+    c .enum-at .ensures (c .before .before .before .before .before .before .before .before .before .before .before .before .before .before .args .nodes) E _ (rw z h) (place-spot (p .0) (r .0) (r .1) (c .before .before .before .before .root-before .ensures) _ _ _ z (c .before .before .before .ops-from .ensures) (c .before .before .args-from .ensures))
 
 enum-known-e : tie.Need-enum-known-e
 enum-known-e c = search needs
@@ -94,7 +92,7 @@ slice-aggregate-try-arms c = search needs
 
 try-arms-requires : tie.Need-try-arms-requires
 try-arms-requires c κs =
-    let p = c .before .before .before .before .before .before .before .before .before .before .before .before .before .before .before .before .pre in (
+    let p = c .before .before .before .before .before .before .before .before .before .before .before .before .before .before .before .before .before .before .pre in (
       p .0,
       (
         p .1 .0,
@@ -130,9 +128,9 @@ plan-of-spec =
     enum-told
     returns
     root-before-requires
-    local-types-requires
     ops-from-requires
     args-from-requires
+    local-types-requires
     enum-at-requires
     enum-known-e
     enum-known-e-2

@@ -1,7 +1,10 @@
 -- `body::arms::rest_of` meets its contract: the variants before v that are not taken are counted. Assumes nothing.
 use mathlib.Core.Logic.{⊎-elim}
 use Prim.Native.Nat.{_-_, _≤_}
+use native.Mathlib.Nat.{mod-eq-of-lt}
 use native.Mathlib.Omega.{arith}
+use borrow.Author.Needs.{needs}
+use mathlib.Core.Path.{_∙_}
 use Rattle.base.specs.Typed.{types-typed}
 use Rattle.mir.proofs.Sizes.{types-sized}
 use Rattle.body.proofs.Variants.{free-below, Counts, counts-first, counts-left, counts-taken, counts-all, count-few}
@@ -33,7 +36,7 @@ add-left : tie.Need-add-left Inv-loop μ-loop
 add-left c = omega (arith, few (c .before .before))
 
 small-requires : tie.Need-small-requires Inv-loop μ-loop
-small-requires c κs = omega (arith, few (c .before .before))
+small-requires c κs = search needs
 
 add-v : tie.Need-add-v Inv-loop μ-loop
 add-v c = omega (arith, few (c .before .before))
@@ -45,7 +48,7 @@ loop-again : tie.Need-loop-again Inv-loop μ-loop
 loop-again c =
     let L = c .before .before .before .loop in
     ⊎-elim
-    (λ w. (omega arith, omega (arith, w .2), rw (w .2, w .3, w .1 .ensures) (counts-left _ _ _ (L .v) (L .inv .2) (w .0 .taken))))
+    (λ w. (omega arith, omega (arith, w .2), rw (w .2, w .3, w .1 .ensures ∙ mod-eq-of-lt (omega (arith, few (c .before .before)))) (counts-left _ _ _ (L .v) (L .inv .2) (w .0 .taken))))
     (λ w. (omega arith, omega (arith, w .1), rw (w .1, w .2) (counts-taken _ _ _ (L .v) (L .inv .2) (w .0 .left))))
     (c .if1 .came)
 

@@ -1,7 +1,8 @@
--- `body::arms::try_arm` meets its contract: by what `variant_of` and `open_variant` ensure. Assumes nothing.
+-- `body::arms::try_arm` meets its contract: by what `variant_of` and `try_variant` ensure. Assumes nothing.
 use mathlib.Core.Path.{_≡_, _∙_}
 use mathlib.Core.Option.{some}
 use Prim.Native.Nat.{_<_}
+use native.Mathlib.Nat.{mod-eq-of-lt}
 use native.Mathlib.Omega.{arith}
 use borrow.Author.Needs.{needs}
 use Rattle.model.specs.Block.{arm-value}
@@ -35,31 +36,31 @@ returns c = λ E h. tried-lost _ (free-unknown _ _ _ _ (value-unknown _ _ _ _ (c
 
 -- the variant is the one of the arm's value
 known : (c : tie.After-known-told)
-    → variant-of (arm-value (c .before .before .before .before .before .before .before .before .before .before .args .fun .now) (c .before .before .before .before .before .before .before .before .before .before .args .i)) (variants (c .before .before .before .before .before .before .before .before .before .before .args .types .now) (c .before .before .before .before .before .before .before .before .before .before .args .t)) ≡ some (c .before .a .given .0 .0)
+    → variant-of (arm-value (c .before .before .before .before .before .before .before .before .before .before .before .before .args .fun .now) (c .before .before .before .before .before .before .before .before .before .before .before .before .args .i)) (variants (c .before .before .before .before .before .before .before .before .before .before .before .before .args .types .now) (c .before .before .before .before .before .before .before .before .before .before .before .before .args .t)) ≡ some (c .before .a .given .0 .0)
 known c = value-known _ _ _ _ (c .before .before .before .before .wide .ensures ∙ c .before .before .before .before .before .arg-of .ensures) (c .before .before .before .variant-of .ensures) (c .before .a .given .1)
 
 -- and has an entry
 entry : (c : tie.After-known-told) → c .before .a .given .0 .0 < 16384
 entry c =
-    let s = c .before .before .before .before .before .before .before .before .before .before in
+    let s = c .before .before .before .before .before .before .before .before .before .before .before .before in
     omega (arith, variant-below _ _ _ (known c), count-few (ready-typed (s .pre .0 .ready)) (s .pre .1 .0 .known))
 
 slice-read-if1 : tie.Need-slice-read-if1
-slice-read-if1 c = omega (arith, entry (c .before), c .before .before .before .before .before .before .before .before .before .before .before .pre .1 .1 .1 .1)
+slice-read-if1 c = omega (arith, entry (c .before), c .before .before .before .before .before .before .before .before .before .before .before .before .before .pre .1 .1 .1 .1)
 
 returns-2 : tie.Need-returns-2
 returns-2 c = λ E h.
-    let p = c .before .before .before .before .before .before .before .before .before .before .before .before .pre in
+    let p = c .before .before .before .before .before .before .before .before .before .before .before .before .before .before .pre in
     tried-lost _ (free-lost _ _ _ _ (known (c .before .before)) (ready-typed (p .0 .ready)) (p .1 .0 .known) (p .1 .0 .enum) (c .if1 .taken))
 
 slice-write-taken : tie.Need-slice-write-taken
-slice-write-taken c = omega (arith, entry (c .before .before), c .before .before .before .before .before .before .before .before .before .before .before .before .pre .1 .1 .1 .1)
+slice-write-taken c = omega (arith, entry (c .before .before), c .before .before .before .before .before .before .before .before .before .before .before .before .before .before .pre .1 .1 .1 .1)
 
 small-requires : tie.Need-small-requires
-small-requires c κs = omega (arith, entry (c .before .before))
+small-requires c κs = search needs
 
-open-variant-requires : tie.Need-open-variant-requires
-open-variant-requires c κs = search needs
+try-variant-requires : tie.Need-try-variant-requires
+try-variant-requires c κs = search needs
 
 same-length : tie.Need-same-length
 same-length c = search needs
@@ -67,8 +68,7 @@ same-length c = search needs
 returns-3 : tie.Need-returns-3
 returns-3 c = λ E h.
     let k = c .before .before .before .before in
-    let M = c .open-variant .ensures E h in
-    tried-left (omega (arith, entry k, c .before .before .before .before .before .before .before .before .before .before .before .before .before .before .pre .1 .1 .1 .1)) (known k) (c .before .before .if1 .left) _ (rw (c .before .small .ensures) at (M .answer))
+    tried-left (omega (arith, entry k, c .before .before .before .before .before .before .before .before .before .before .before .before .before .before .before .before .pre .1 .1 .1 .1)) (known k) (c .before .before .if1 .left) _ (rw (c .before .small .ensures ∙ mod-eq-of-lt (omega (arith, entry k))) at (c .try-variant .ensures E h))
 
 pub try-arm-spec : {M : Type 1} → statement M
 try-arm-spec =
@@ -85,6 +85,6 @@ try-arm-spec =
     returns-2
     slice-write-taken
     small-requires
-    open-variant-requires
+    try-variant-requires
     same-length
     returns-3)

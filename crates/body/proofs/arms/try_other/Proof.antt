@@ -1,4 +1,4 @@
--- `body::arms::try_other` meets its contract: by what `rest_of` and `open_variant` ensure. Assumes nothing.
+-- `body::arms::try_other` meets its contract: by what `rest_of` and `try_variant` ensure. Assumes nothing.
 use mathlib.Core.Path.{sym, _∙_}
 use borrow.Author.Needs.{needs}
 use Rattle.body.proofs.Tries.{ended-none, ended-fine, ended-denied}
@@ -13,8 +13,8 @@ returns c = λ E h.
     let w = c .before .before .rest-of in
     ended-none (w .result .left) (w .result .other) (w .ensures .is) (c .if1 .taken)
 
-open-variant-requires : tie.Need-open-variant-requires
-open-variant-requires c κs = search needs
+try-variant-requires : tie.Need-try-variant-requires
+try-variant-requires c κs = search needs
 
 enum-told : tie.Need-enum-told
 enum-told c = search needs
@@ -25,14 +25,12 @@ enum-known-a c = search needs
 returns-2 : tie.Need-returns-2
 returns-2 c = λ E h.
     let w = c .before .before .before .before .before .rest-of in
-    let M = c .before .before .open-variant .ensures E h in
-    ended-fine (w .result .left) (w .result .other) (w .ensures .is) (c .before .before .before .if1 .left) (sym (M .answer) ∙ c .enum-told .given .1)
+    ended-fine (w .result .left) (w .result .other) (w .ensures .is) (c .before .before .before .if1 .left) (sym (c .before .before .try-variant .ensures E h) ∙ c .enum-told .given .1)
 
 returns-3 : tie.Need-returns-3
 returns-3 c = λ E h.
     let w = c .before .before .before .before .before .before .rest-of in
-    let M = c .before .before .before .open-variant .ensures E h in
-    ended-denied (w .result .left) (w .result .other) (w .ensures .is) (c .before .before .before .before .if1 .left) (sym (M .answer) ∙ c .before .a .given .1)
+    ended-denied (w .result .left) (w .result .other) (w .ensures .is) (c .before .before .before .before .if1 .left) (sym (c .before .before .before .try-variant .ensures E h) ∙ c .before .a .given .1)
 
 pub try-other-spec : {M : Type 1} → statement M
-try-other-spec = tie.close (tie.spec rest-of-requires returns open-variant-requires enum-told enum-known-a returns-2 returns-3)
+try-other-spec = tie.close (tie.spec rest-of-requires returns try-variant-requires enum-told enum-known-a returns-2 returns-3)

@@ -1,10 +1,11 @@
 -- `body::items::point_of` meets its contract: an item's number is below 2 ^ 32, and is not the entry's. Assumes nothing.
 use borrow.Author.Needs.{needs}
 use borrow.Author.Tests.{ne-eqb}
-use mathlib.Core.Path.{_≡_, refl}
+use mathlib.Core.Path.{_≡_, refl, _∙_}
 use mathlib.Core.Bool.{true, false}
 use mathlib.Core.List.{List}
 use Prim.Native.Nat.{ℕ, _<_}
+use native.Mathlib.Nat.{mod-eq-of-lt}
 use native.Mathlib.Omega.{arith}
 use Rattle.model.specs.Function.{nitems}
 use Rattle.model.specs.Block.{entry-point}
@@ -33,7 +34,7 @@ small-requires c κs = search needs
 
 returns-2 : tie.Need-returns-2
 returns-2 c = λ fn L l.
-    rw (c .before .if1 .left) (item-told fn (c .before .before .args .i) (c .small .result) l (c .small .ensures (omega (arith, L .most-items))))
+    rw (c .before .if1 .left) (item-told fn (c .before .before .args .i) (c .small .result) l (c .small .ensures ∙ mod-eq-of-lt (omega (arith, L .most-items))))
 
 pub point-of-spec : {M : Type 1} → statement M
 point-of-spec = tie.close (tie.spec returns small-requires returns-2)

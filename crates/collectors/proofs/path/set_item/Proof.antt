@@ -1,5 +1,7 @@
 -- `collectors::path::set_item` meets its contract: a word is set in each array. Assumes nothing.
 use borrow.Author.Needs.{needs}
+use mathlib.Core.Path.{_∙_}
+use native.Mathlib.Nat.{mod-eq-of-lt}
 use Rattle.collectors.proofs.Trails.{trail-set}
 use Rattle.collectors.proofs.path.set_item.Statement.{statement}
 use Rattle.collectors.proofs.path.set_item.Tie as tie
@@ -26,7 +28,7 @@ same-length-2 : tie.Need-same-length-2
 same-length-2 c = search needs
 
 returns : tie.Need-returns
-returns c = rw (c .small .ensures) (trail-set (c .before .before .before .pre .0) _ _ (c .before .before .before .pre .1 .0))
+returns c = rw (c .small .ensures ∙ mod-eq-of-lt (c .before .before .before .pre .1 .1)) (trail-set (c .before .before .before .pre .0) _ _ (c .before .before .before .pre .1 .0))
 
 pub set-item-spec : {M : Type 1} → statement M
 set-item-spec =

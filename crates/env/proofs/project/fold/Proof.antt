@@ -23,13 +23,19 @@ used-requires c κs = search needs
 enum-known-a : tie.Need-enum-known-a
 enum-known-a c = search needs
 
+same-length : tie.Need-same-length
+same-length c = search needs
+
+same-length-2 : tie.Need-same-length-2
+same-length-2 c = search needs
+
 returns : tie.Need-returns
 returns c =
-    let s = c .before .before .before .before .before .before .before .before .before in
+    let s = c .before .before .before .before .before .before .before .before .before .before .before .before .before .before .before .before .before in
     let n = length (s .args .locals .now) in
     λ E q h is.
     let ok = given-passes (s .pre .1 .1) is in
-    fold-refused (h .trees .fits) q (spot-limited n q 64 (fold-walks n q ok) .known) (fold-usable n q ok) (c .before .before .before .used .ensures E q h is) (c .before .a .given .1)
+    fold-refused (h .trees .fits) q (spot-limited n q 64 (fold-walks n q ok) .known) (fold-usable n q ok) (c .before .before .before .before .before .before .before .used .ensures E q h is) (c .before .a .given .1)
 
 -- an answer of another variant is no refusal
 accepted : (a : Projected) → OneOf (0 ∷ 1 ∷ 2 ∷ []) (tagOf the-type a) → (n : ℕ) → a ≡ Refused n → ⊥
@@ -38,13 +44,19 @@ accepted Fold k n e = clash (cc)
 accepted (Unfold m) k n e = clash (cc)
 accepted (Refused m) k n e = ⊎-elim (λ z. omega arith) (⊎-elim (λ z. omega arith) (λ z. omega arith)) k
 
+same-length-3 : tie.Need-same-length-3
+same-length-3 c = search needs
+
+same-length-4 : tie.Need-same-length-4
+same-length-4 c = search needs
+
 returns-2 : tie.Need-returns-2
 returns-2 c =
-    let s = c .before .before .before .before .before .before .before .before in
+    let s = c .before .before .before .before .before .before .before .before .before .before .before .before .before .before .before in
     let n = length (s .args .locals .now) in
     λ E q h is.
     let ok = given-passes (s .pre .1 .1) is in
-    fold-carried (h .trees .fits) q (spot-limited n q 64 (fold-walks n q ok) .known) (fold-usable n q ok) (c .before .before .used .ensures E q h is) (accepted (c .before .before .used .result .answer) (c .before .match .keys2))
+    fold-carried (h .trees .fits) q (spot-limited n q 64 (fold-walks n q ok) .known) (fold-usable n q ok) (c .before .before .before .before .before .used .ensures E q h is) (accepted (c .before .before .before .before .before .used .result .answer) (c .match .keys2))
 
 pub fold-spec : {M : Type 1} → statement M
-fold-spec = tie.close (tie.spec used-requires enum-known-a returns returns-2)
+fold-spec = tie.close (tie.spec used-requires enum-known-a same-length same-length-2 returns same-length-3 same-length-4 returns-2)

@@ -9,7 +9,8 @@ use Rattle.model.specs.Walk.{pick}
 use Rattle.model.specs.Collect.{firsts}
 use Rattle.model.specs.Calls.{spot-of}
 use Rattle.records.specs.Here.{Holds}
-use Rattle.state.specs.Value.{value}
+use Rattle.state.specs.Value.{value, state-in}
+use Rattle.state.specs.declared.nodes.State.{State}
 use Rattle.walk.specs.Site.{Walks}
 use Rattle.walk.specs.declared.along.Walked.{Walked}
 use Rattle.walk.specs.declared.along.Walked.the-variants.{To}
@@ -21,14 +22,18 @@ use Rattle.env.proofs.Lasts.{sited-at}
 use Rattle.env.proofs.project.used.Statement.{statement}
 use Rattle.env.proofs.project.used.Tie as tie
 
+-- the state that the arrays hold
+abbrev given : tie.Start → State
+given c = state-in (c .args .forms .now) (c .args .whats .now) (c .args .nodes)
+
 -- the place can be walked
-walks : (c : tie.Start) → Given (c .args .types .now) (c .args .locals .now) (c .args .t4) (c .args .ops .now) (c .args .args .now) (spot-ok 64 (length (c .args .locals .now)))
+walks : (c : tie.Start) → Given (c .args .types .now) (c .args .locals .now) (given c) (c .args .ops .now) (c .args .args .now) (spot-ok 64 (length (c .args .locals .now)))
 walks c = given-also (c .pre .1 .1) (spot-ok 64 (length (c .args .locals .now))) (λ q h. fold-walks (length (c .args .locals .now)) q h)
 
 ensure-unfolded-requires : tie.Need-ensure-unfolded-requires
 ensure-unfolded-requires c κs =
-    let s = c .before .before .before .before .before .before .before .before .before .before in
-    (s .pre .0, (s .pre .1 .0, (s .args .t4 .nodes, walks s)))
+    let s = c .before .before .before .before .before .before .before .before .before in
+    (s .pre .0, (s .pre .1 .0, (s .args .nodes, walks s)))
 
 enum-known-a : tie.Need-enum-known-a
 enum-known-a c = search needs
@@ -39,35 +44,60 @@ enum-told c = search needs
 refusal-requires : tie.Need-refusal-requires
 refusal-requires c κs = tt
 
+same-length : tie.Need-same-length
+same-length c = search needs
+
+same-length-2 : tie.Need-same-length-2
+same-length-2 c = search needs
+
 -- the function's entry, seen from its walk
 abbrev start : tie.After-ensure-unfolded → tie.Start
-start c = c .before .before .before .before .before .before .before .before .before .before .before
+start c = c .before .before .before .before .before .before .before .before .before .before
 
 -- what the walk has found
 abbrev Found : (c : tie.After-ensure-unfolded) → Forest → Spot → Walked → Type 0
-Found c E q r = Walks ((start c) .args .types .now) ((start c) .args .t4 .forms) ((start c) .args .t4 .whats) ((start c) .args .ops .now) ((start c) .args .args .now) (sizes (firsts (q .local) E)) (q .place) (pick (q .local) E) r
+Found c E q r = Walks ((start c) .args .types .now) ((start c) .args .forms .now) ((start c) .args .whats .now) ((start c) .args .ops .now) ((start c) .args .args .now) (sizes (firsts (q .local) E)) (q .place) (pick (q .local) E) r
 
 returns : tie.Need-returns
 returns c =
     let s = start (c .before .before .before) in
     λ E q h is. projects-refused (projection-refused (h .trees .fits) q (spot-limited (length (s .args .locals .now)) q 64 (given-passes (walks s) is) .known)
-    (subst (Found (c .before .before .before) E q) (walked-refused (c .before .enum-told .given .1) (c .refusal .ensures)) (c .before .before .before .ensure-unfolded .ensures (s .args .t4 .nodes) E q h is)))
+    (subst (Found (c .before .before .before) E q) (walked-refused (c .before .enum-told .given .1) (c .refusal .ensures)) (c .before .before .before .ensure-unfolded .ensures (s .args .nodes) E q h is)))
 
 -- it has ended
-ended : (c : tie.After-a) (E : Forest) (q : Spot) → Holds ((start (c .before .before)) .args .types .now) ((start (c .before .before)) .args .locals .now) (value ((start (c .before .before)) .args .t4)) E
+ended : (c : tie.After-a) (E : Forest) (q : Spot) → Holds ((start (c .before .before)) .args .types .now) ((start (c .before .before)) .args .locals .now) (value (given (start (c .before .before)))) E
     → spot-of ((start (c .before .before)) .args .ops .now) ((start (c .before .before)) .args .args .now) ≡ some q → Found (c .before .before) E q (To (c .a .given .0 .0))
-ended c E q h is = subst (Found (c .before .before) E q) (c .a .given .1) (c .before .before .ensure-unfolded .ensures ((start (c .before .before)) .args .t4 .nodes) E q h is)
+ended c E q h is = subst (Found (c .before .before) E q) (c .a .given .1) (c .before .before .ensure-unfolded .ensures ((start (c .before .before)) .args .nodes) E q h is)
 
 used-at-requires : tie.Need-used-at-requires
 used-at-requires c κs =
-    let s = start (c .before .before .before) in
+    let s = start (c .before .before .before .before .before) in
     let g = walks s in
-    (s .pre .0, sited-at _ (g .state) (g .spot) (g .holds) (g .is) (g .passes) (ended (c .before) (g .state) (g .spot) (g .holds) (g .is)))
+    (s .pre .0, sited-at _ (g .state) (g .spot) (g .holds) (g .is) (g .passes) (ended (c .before .before .before) (g .state) (g .spot) (g .holds) (g .is)))
+
+same-length-3 : tie.Need-same-length-3
+same-length-3 c = search needs
+
+same-length-4 : tie.Need-same-length-4
+same-length-4 c = search needs
 
 returns-2 : tie.Need-returns-2
 returns-2 c =
-    let s = start (c .before .before .before .before) in
-    λ E q h is. c .used-at .ensures (sited-at _ E q h is (given-passes (walks s) is) (ended (c .before .before) E q h is)) (given-passes (s .pre .1 .1) is)
+    let s = start (c .before .before .before .before .before .before .before .before .before .before) in
+    λ E q h is. c .before .before .before .before .used-at .ensures (sited-at _ E q h is (given-passes (walks s) is) (ended (c .before .before .before .before .before .before .before .before) E q h is)) (given-passes (s .pre .1 .1) is)
 
 pub used-spec : {M : Type 1} → statement M
-used-spec = tie.close (tie.spec ensure-unfolded-requires enum-known-a enum-told refusal-requires returns used-at-requires returns-2)
+used-spec =
+    tie.close
+    (tie.spec
+    ensure-unfolded-requires
+    enum-known-a
+    enum-told
+    refusal-requires
+    same-length
+    same-length-2
+    returns
+    used-at-requires
+    same-length-3
+    same-length-4
+    returns-2)

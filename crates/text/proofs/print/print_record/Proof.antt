@@ -7,8 +7,8 @@ use Prim.Native.Nat.{ℕ, _+_, _-_, _*_, _≤_, _<_}
 use native.Mathlib.Omega.{arith}
 use lib.ListN.{length, take, drop}
 use Rattle.model.specs.Words.{word}
-use Rattle.text.specs.Printing.{first-text, entries-text, entries-of}
-use Rattle.text.proofs.Entries.{text-next, text-over, length-first}
+use Rattle.text.specs.Printing.{first-text, entries-of}
+use Rattle.text.proofs.Entries.{text-next, text-over, length-first, entries-text}
 use Rattle.text.proofs.Lines.{lines-printed}
 use Rattle.text.proofs.print.print_record.Statement.{statement}
 use Rattle.text.proofs.print.print_record.Tie as tie

@@ -25,7 +25,7 @@ same-length-2 c = search needs
 returns : tie.Need-returns
 returns c =
     let p = c .before .before .before .before .before .before .before .before .before .before .before .before .pre in
-    let F = c .before .stands .ensures (c .if1 .taken) in (
+    let F = c .before .stands .ensures .holds (c .if1 .taken) in (
       λ o E v h.
           let e = saved-same _ _ _ _ _ (ready-typed (p .0 .ready) .known) o v h (F .0) (F .1) (F .2) in
           rw e (arrives-same (rw e at v)),

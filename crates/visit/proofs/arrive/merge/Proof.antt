@@ -1,8 +1,9 @@
 -- `visit::arrive::merge` meets its contract: what is saved, loaded and joined, by the laws of `Stored` and `Arrived`. Assumes nothing.
 use borrow.Author.Needs.{needs}
-use mathlib.Core.Path.{refl}
+use mathlib.Core.Path.{refl, _∙_}
 use mathlib.Core.Option.{Option}
 use Prim.Native.Nat.{_≤_}
+use native.Mathlib.Nat.{mod-eq-of-lt}
 use native.Mathlib.Omega.{arith}
 use lib.ListN.{length-set}
 use Rattle.model.specs.Words.{word}
@@ -62,7 +63,7 @@ same-length-4 c = search needs
 returns : tie.Need-returns
 returns c =
     let w = c .before .before .before .before .before .before .before .before .before .before .save-state in (
-      λ o E v h. rw (saved-bare _ _ _ _ _ o v (c .before .before .before .before .before .before .before .before .before .before .before .before .before .if1 .taken)) (arrives-first h (c .before .before .before .before .before .before .before .before .before .before .before .before .before .before .before .before .before .before .before .before .before .before .pre .1 .1 .0 .0) (c .before .before .before .before .small .ensures) (w .ensures .0) (w .ensures .1) refl (c .before .before .insert .ensures)),
+      λ o E v h. rw (saved-bare _ _ _ _ _ o v (c .before .before .before .before .before .before .before .before .before .before .before .before .before .if1 .taken)) (arrives-first h (c .before .before .before .before .before .before .before .before .before .before .before .before .before .before .before .before .before .before .before .before .before .before .pre .1 .1 .0 .0) (c .before .before .before .before .small .ensures ∙ mod-eq-of-lt (omega (arith, h .shape .few))) (w .ensures .0) (w .ensures .1) refl (c .before .before .insert .ensures)),
       (simp length-set, c .before .before .insert .kept .0, w .kept .1 .0, w .kept .1 .1 .0),
     )
 
@@ -133,7 +134,7 @@ add-small-2 : tie.Need-add-small-2
 add-small-2 c = omega (arith, few c)
 
 small-requires-2 : tie.Need-small-requires-2
-small-requires-2 c κs = omega (arith, few c)
+small-requires-2 c κs = search needs
 
 mul-kept-2 : tie.Need-mul-kept-2
 mul-kept-2 c = let s = c .before .before .before .before .before .before .before .before .before .before .before .before .before .before .before .before .before .before .before .before .before .before .before .before .before .before in omega (arith, s .pre .1 .1 .0 .0, s .good .1 .1 .1 .0 .1)
@@ -159,7 +160,7 @@ same-length-10 c = search needs
 returns-3 : tie.Need-returns-3
 returns-3 c =
     let j = c .before .before .before .before .before .before .before .before .before .before .before .before .before in (
-      λ o E v h. let l = loaded (j .before .before .before .before) o v in rw (l .is) (arrives-changed (met j o E v h) (l .full .valid) (holds-valid h) (c .before .before .before .before .before .before .before .j .given .1) (c .before .before .before .before .before .if2 .taken) (j .before .before .before .before .before .before .before .before .before .before .before .before .before .before .before .before .before .pre .1 .1 .0 .0) (c .before .before .before .before .small2 .ensures) refl (c .before .before .insert2 .ensures)),
+      λ o E v h. let l = loaded (j .before .before .before .before) o v in rw (l .is) (arrives-changed (met j o E v h) (l .full .valid) (holds-valid h) (c .before .before .before .before .before .before .before .j .given .1) (c .before .before .before .before .before .if2 .taken) (j .before .before .before .before .before .before .before .before .before .before .before .before .before .before .before .before .before .pre .1 .1 .0 .0) (c .before .before .before .before .small2 .ensures ∙ mod-eq-of-lt (omega (arith, few (c .before .before .before .before .before)))) refl (c .before .before .insert2 .ensures)),
       (simp length-set, c .before .before .insert2 .kept .0, j .join-into .kept .1 .1 .1 .1 .1 .0, j .join-into .kept .1 .1 .1 .1 .1 .1 .0),
     )
 

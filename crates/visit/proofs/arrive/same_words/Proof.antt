@@ -1,6 +1,6 @@
 -- `visit::arrive::same_words` meets its contract: the words before i are the same. Assumes nothing.
 use borrow.Author.Needs.{needs}
-use mathlib.Core.Path.{_≡_, sym}
+use mathlib.Core.Path.{_≡_, sym, ap}
 use mathlib.Core.Bool.{true≢false}
 use mathlib.Core.List.{List}
 use mathlib.Core.Logic.{⊎-elim}
@@ -44,7 +44,7 @@ shared-slice-read-if1-2 : tie.Need-shared-slice-read-if1-2 Inv-loop μ-loop
 shared-slice-read-if1-2 c = search needs
 
 returns : tie.Need-returns Inv-loop μ-loop
-returns c = λ e. absurd (true≢false (sym e))
+returns c = record { holds = λ e. absurd (true≢false (sym e)); fails = λ e d. c .if1 .taken (ap (λ (l : List ℕ). getD l (c .before .before .before .before .loop .i) 0) d) }
 
 add-i : tie.Need-add-i Inv-loop μ-loop
 add-i c = search needs
@@ -58,7 +58,7 @@ loop-again c =
     (omega arith, same-more (a .a .now) (a .b .now) (c .before .before .before .before .loop .inv .1) (c .if1 .left))
 
 returns-2 : tie.Need-returns-2 Inv-loop μ-loop
-returns-2 c = λ e. ext-getD 0 _ _ (c .before .before .pre) (λ k l. c .before .loop .inv .1 k (omega arith))
+returns-2 c = record { holds = λ e. ext-getD 0 _ _ (c .before .before .pre) (λ k l. c .before .loop .inv .1 k (omega arith)); fails = λ e. absurd (true≢false e) }
 
 pub same-words-spec : {M : Type 1} → statement M
 same-words-spec = tie.close (tie.spec Inv-loop μ-loop loop-holds mul-if1 shared-slice-read-if1 mul-if1-2 shared-slice-read-if1-2 returns add-i loop-less loop-again returns-2)

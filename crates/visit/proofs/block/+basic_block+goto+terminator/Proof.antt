@@ -16,8 +16,8 @@ use Rattle.base.specs.Function.{stop-inside, target-known}
 use Rattle.records.specs.Here.{Holds}
 use Rattle.graph.specs.Ranges.{Holds as In-block}
 use Rattle.blocks.proofs.Spots.{formed-accepted}
-use Rattle.state.specs.Value.{value}
-use Rattle.body.specs.Uses.{uses, Gone}
+use Rattle.state.specs.Value.{value, state-in}
+use Rattle.body.specs.Uses.{uses, Gone, after-in}
 use Rattle.visit.specs.Memory.{Memory}
 use Rattle.visit.specs.Shares.{arrays, Remembers}
 use Rattle.visit.specs.Visits.{Spoken, exit}
@@ -57,15 +57,15 @@ abbrev μ-basic-block : Measures 10 basic-block-kinds.ps ℕ
 abbrev μ-goto : Measures 10 goto-kinds.ps ℕ
 μ-goto κs a = 3 * a .1 .1 .1 .1 .1 .1 .1 .1 .1 .1 .1 .0
 
-abbrev μ-terminator : Measures 10 terminator-kinds.ps ℕ
+abbrev μ-terminator : Measures 11 terminator-kinds.ps ℕ
 μ-terminator κs a = 3 * a .1 .1 .1 .1 .1 .1 .1 .1 .1 .1 .1 .0 + 1
 
 abbrev terminator-Inv-loop : terminator-lts.InvT-loop
-terminator-Inv-loop types offs fun points kept₀ visited waits₀ forms₀ whats₀ out₀ recording left b from end s p q₀ i₀ kept waits forms whats out q i =
-    Onward types fun recording left b s p (arrays kept₀ visited waits₀ forms₀ whats₀) out₀ q₀ (arrays kept visited waits forms whats) out q i
+terminator-Inv-loop types offs fun points kept₀ visited waits₀ forms₀ whats₀ out₀ recording left b from end fs ws n p q₀ i₀ kept waits forms whats out q i =
+    Onward types fun recording left b (state-in fs ws n) p (arrays kept₀ visited waits₀ forms₀ whats₀) out₀ q₀ (arrays kept visited waits forms whats) out q i
 
 abbrev terminator-μ-loop : terminator-lts.MeasureT-loop
-terminator-μ-loop types offs fun points kept₀ visited waits₀ forms₀ whats₀ out₀ recording left b from end s p q₀ i₀ kept waits forms whats out q i =
+terminator-μ-loop types offs fun points kept₀ visited waits₀ forms₀ whats₀ out₀ recording left b from end fs ws n p q₀ i₀ kept waits forms whats out q i =
     end - i
 
 module _ (t : ℕ) where
@@ -81,11 +81,11 @@ module _ (t : ℕ) where
   abbrev goto-below : In 10 goto-kinds.ps
   goto-below = and 10 goto-kinds.ps (falls 10 goto-kinds.ps _<_ μ-goto t) goto.Pre
 
-  abbrev terminator-at : In 10 terminator-kinds.ps
-  terminator-at = and 10 terminator-kinds.ps (is 10 terminator-kinds.ps μ-terminator t) terminator.Pre
+  abbrev terminator-at : In 11 terminator-kinds.ps
+  terminator-at = and 11 terminator-kinds.ps (is 11 terminator-kinds.ps μ-terminator t) terminator.Pre
 
-  abbrev terminator-below : In 10 terminator-kinds.ps
-  terminator-below = and 10 terminator-kinds.ps (falls 10 terminator-kinds.ps _<_ μ-terminator t) terminator.Pre
+  abbrev terminator-below : In 11 terminator-kinds.ps
+  terminator-below = and 11 terminator-kinds.ps (falls 11 terminator-kinds.ps _<_ μ-terminator t) terminator.Pre
 
   abbrev basic-block-claims : basic-block-lts.Claims
   basic-block-claims = (start-of-reads.Asked, start-of-reads.Learnt, stop-of-reads.Asked, stop-of-reads.Learnt, pass-items-reads.Asked, pass-items-reads.Learnt, op-of-reads.Asked, op-of-reads.Learnt, returned-reads.Asked, returned-reads.Learnt, terminator-below, terminator.Post)
@@ -97,17 +97,17 @@ module _ (t : ℕ) where
   terminator-claims = (plan-of-reads.Asked, plan-of-reads.Learnt, op-of-reads.Asked, op-of-reads.Learnt, target-state-reads.Asked, target-state-reads.Learnt, arg-of-reads.Asked, arg-of-reads.Learnt, wide-reads.Asked, wide-reads.Learnt, goto-below, goto.Post)
 
   -- the block's last item is one of the record's
-  last-inside : (c : basic-block-lts.After-q basic-block-claims basic-block-at basic-block.Post) → c .before .before .before .before .before .before .before .before .stop-of .result - 1 < nitems (c .before .before .before .before .before .before .before .before .before .before .before .before .before .before .before .before .before .before .before .before .args .fun .now)
+  last-inside : (c : basic-block-lts.After-q basic-block-claims basic-block-at basic-block.Post) → c .before .before .before .before .before .before .before .before .before .before .before .before .before .stop-of .result - 1 < nitems (c .before .before .before .before .before .before .before .before .before .before .before .before .before .before .before .before .before .before .before .before .before .before .before .before .before .args .fun .now)
   last-inside c =
-      let A = formed-accepted (c .before .before .before .before .before .before .before .before .before .before .before .before .before .before .before .before .before .before .before .before .pre .1 .0 .formed) in
-      omega (arith, c .before .before .before .before .before .before .before .before .stop-of .ensures, A .starts _ (c .before .before .before .before .before .before .before .before .before .before .before .before .before .before .before .before .before .before .before .before .pre .1 .1 .1 .1 .0), stop-inside A (c .before .before .before .before .before .before .before .before .before .before .before .before .before .before .before .before .before .before .before .before .args .b))
+      let A = formed-accepted (c .before .before .before .before .before .before .before .before .before .before .before .before .before .before .before .before .before .before .before .before .before .before .before .before .before .pre .1 .0 .formed) in
+      omega (arith, c .before .before .before .before .before .before .before .before .before .before .before .before .before .stop-of .ensures, A .starts _ (c .before .before .before .before .before .before .before .before .before .before .before .before .before .before .before .before .before .before .before .before .before .before .before .before .before .pre .1 .1 .1 .1 .0), stop-inside A (c .before .before .before .before .before .before .before .before .before .before .before .before .before .before .before .before .before .before .before .before .before .before .before .before .before .args .b))
 
   -- the items were passed
-  gone : (c : basic-block-lts.After-q basic-block-claims basic-block-at basic-block.Post) → let a = c .before .before .before .before .before .before .before .before .before .before .before .before .before .before .before .before .before .before .before .before .args in
+  gone : (c : basic-block-lts.After-q basic-block-claims basic-block-at basic-block.Post) → let a = c .before .before .before .before .before .before .before .before .before .before .before .before .before .before .before .before .before .before .before .before .before .before .before .before .before .args in
       (E : Forest) → Holds (a .types .now) (local-types (a .fun .now)) (value (a .s)) E
       → (w : Forest × List (Line At)) × (uses (a .types .now) (a .fun .now) false (stop (a .fun .now) (a .b) - start (a .fun .now) (a .b)) (start (a .fun .now) (a .b)) E ≡ done w)
-      × Gone (a .types .now) (a .fun .now) (a .recording) (a .out .now) (a .o) (c .before .before .before .before .before .before .pass-items .last .1 .1 .1 .1 .1 .1 .1 .1 .0) w (c .before .before .before .before .before .before .pass-items .result)
-  gone c E H = passes-gone (rw (c .before .before .before .before .before .before .before .before .before .start-of .ensures, c .before .before .before .before .before .before .before .before .stop-of .ensures) at (c .before .before .before .before .before .before .pass-items .ensures E H)) (c .before .before .if1 .left)
+      × Gone (a .types .now) (a .fun .now) (a .recording) (a .out .now) (a .o) (c .before .before .before .before .before .before .before .pass-items .last .1 .1 .1 .1 .1 .1 .1 .1 .1 .1 .0) w (after-in (c .before .before .before .before .before .before .before .pass-items .last .1 .1 .1 .1 .1 .1 .0) (c .before .before .before .before .before .before .before .pass-items .last .1 .1 .1 .1 .1 .1 .1 .0) (c .before .before .before .before .before .before .before .pass-items .result))
+  gone c E H = passes-gone (rw (c .before .before .before .before .before .before .before .before .before .before .before .before .before .before .start-of .ensures, c .before .before .before .before .before .before .before .before .before .before .before .before .before .stop-of .ensures) at (c .before .before .before .before .before .before .before .pass-items .ensures E H)) (c .before .if1 .left)
 
   basic-block-start-of-requires : basic-block-lts.Need-start-of-requires basic-block-claims basic-block-at basic-block.Post
   basic-block-start-of-requires c κs = (c .before .before .before .before .before .before .before .before .before .before .pre .1 .0 .formed .laid, c .before .before .before .before .before .before .before .before .before .before .pre .1 .1 .1 .1 .0)
@@ -115,33 +115,39 @@ module _ (t : ℕ) where
   basic-block-stop-of-requires : basic-block-lts.Need-stop-of-requires basic-block-claims basic-block-at basic-block.Post
   basic-block-stop-of-requires c κs = (c .before .before .before .before .before .before .before .before .before .before .before .pre .1 .0 .formed .laid, c .before .before .before .before .before .before .before .before .before .before .before .pre .1 .1 .1 .1 .0)
 
+  basic-block-slice-aggregate-pass-items : basic-block-lts.Need-slice-aggregate-pass-items basic-block-claims basic-block-at basic-block.Post
+  basic-block-slice-aggregate-pass-items c = search needs
+
+  basic-block-slice-aggregate-pass-items-2 : basic-block-lts.Need-slice-aggregate-pass-items-2 basic-block-claims basic-block-at basic-block.Post
+  basic-block-slice-aggregate-pass-items-2 c = search needs
+
   basic-block-pass-items-requires : basic-block-lts.Need-pass-items-requires basic-block-claims basic-block-at basic-block.Post
   basic-block-pass-items-requires c κs =
-      let p = c .before .before .before .before .before .before .before .before .before .before .before .before .before .pre .1 in
+      let p = c .before .before .before .before .before .before .before .before .before .before .before .before .before .before .before .before .before .pre .1 in
       let A = formed-accepted (p .0 .formed) in
       let l = p .1 .1 .1 .0 in
-      (p .0, ((omega (arith, c .before .before .start-of .ensures, c .before .stop-of .ensures, A .starts _ l), omega (arith, c .before .stop-of .ensures, stop-inside A (c .before .before .before .before .before .before .before .before .before .before .before .before .before .args .b))), (p .1 .1 .1 .1, p .1 .1 .0 .spoken .counted)))
+      (p .0, ((omega (arith, c .before .before .before .before .before .before .start-of .ensures, c .before .before .before .before .before .stop-of .ensures, A .starts _ l), omega (arith, c .before .before .before .before .before .stop-of .ensures, stop-inside A (c .before .before .before .before .before .before .before .before .before .before .before .before .before .before .before .before .before .args .b))), (p .1 .1 .1 .1, p .1 .1 .0 .spoken .counted)))
 
   basic-block-same-length : basic-block-lts.Need-same-length basic-block-claims basic-block-at basic-block.Post
   basic-block-same-length c = search needs
 
   basic-block-returns : basic-block-lts.Need-returns basic-block-claims basic-block-at basic-block.Post
   basic-block-returns c = λ m E R N H.
-      let p = c .before .before .before .before .before .before .before .before .before .before .before .before .before .before .before .before .before .before .pre .1 in
-      enter-refused (c .before .before .before .before .before .before .before .before .before .before .before .before .before .before .before .before .before .before .args .left) (p .1 .1 .1 .0) E m (rw (c .before .before .before .before .before .before .before .start-of .ensures, c .before .before .before .before .before .before .stop-of .ensures) at (c .before .before .before .before .pass-items .ensures E H)) (c .if1 .taken)
+      let p = c .before .before .before .before .before .before .before .before .before .before .before .before .before .before .before .before .before .before .before .before .before .before .before .before .pre .1 in
+      enter-refused (c .before .before .before .before .before .before .before .before .before .before .before .before .before .before .before .before .before .before .before .before .before .before .before .before .args .left) (p .1 .1 .1 .0) E m (rw (c .before .before .before .before .before .before .before .before .before .before .before .before .before .start-of .ensures, c .before .before .before .before .before .before .before .before .before .before .before .before .stop-of .ensures) at (c .before .before .before .before .before .before .pass-items .ensures E H)) (c .if1 .taken)
 
   basic-block-sub-op-of : basic-block-lts.Need-sub-op-of basic-block-claims basic-block-at basic-block.Post
-  basic-block-sub-op-of c = omega (arith, c .before .before .before .before .before .before .before .before .stop-of .ensures, (formed-accepted (c .before .before .before .before .before .before .before .before .before .before .before .before .before .before .before .before .before .before .before .before .pre .1 .0 .formed)) .starts _ (c .before .before .before .before .before .before .before .before .before .before .before .before .before .before .before .before .before .before .before .before .pre .1 .1 .1 .1 .0))
+  basic-block-sub-op-of c = omega (arith, c .before .before .before .before .before .before .before .before .before .before .before .before .before .stop-of .ensures, (formed-accepted (c .before .before .before .before .before .before .before .before .before .before .before .before .before .before .before .before .before .before .before .before .before .before .before .before .before .pre .1 .0 .formed)) .starts _ (c .before .before .before .before .before .before .before .before .before .before .before .before .before .before .before .before .before .before .before .before .before .before .before .before .before .pre .1 .1 .1 .1 .0))
 
   basic-block-op-of-requires : basic-block-lts.Need-op-of-requires basic-block-claims basic-block-at basic-block.Post
-  basic-block-op-of-requires c κs = (c .before .before .before .before .before .before .before .before .before .before .before .before .before .before .before .before .before .before .before .before .pre .1 .0 .formed .laid, last-inside c)
+  basic-block-op-of-requires c κs = (c .before .before .before .before .before .before .before .before .before .before .before .before .before .before .before .before .before .before .before .before .before .before .before .before .before .pre .1 .0 .formed .laid, last-inside c)
 
   basic-block-sub-returned : basic-block-lts.Need-sub-returned basic-block-claims basic-block-at basic-block.Post
-  basic-block-sub-returned c = omega (arith, c .before .before .before .before .before .before .before .before .before .before .stop-of .ensures, (formed-accepted (c .before .before .before .before .before .before .before .before .before .before .before .before .before .before .before .before .before .before .before .before .before .before .pre .1 .0 .formed)) .starts _ (c .before .before .before .before .before .before .before .before .before .before .before .before .before .before .before .before .before .before .before .before .before .before .pre .1 .1 .1 .1 .0))
+  basic-block-sub-returned c = omega (arith, c .before .before .before .before .before .before .before .before .before .before .before .before .before .before .before .stop-of .ensures, (formed-accepted (c .before .before .before .before .before .before .before .before .before .before .before .before .before .before .before .before .before .before .before .before .before .before .before .before .before .before .before .pre .1 .0 .formed)) .starts _ (c .before .before .before .before .before .before .before .before .before .before .before .before .before .before .before .before .before .before .before .before .before .before .before .before .before .before .before .pre .1 .1 .1 .1 .0))
 
   basic-block-returned-requires : basic-block-lts.Need-returned-requires basic-block-claims basic-block-at basic-block.Post
   basic-block-returned-requires c κs =
-      let p = c .before .before .before .before .before .before .before .before .before .before .before .before .before .before .before .before .before .before .before .before .before .before .before .pre .1 in
+      let p = c .before .before .before .before .before .before .before .before .before .before .before .before .before .before .before .before .before .before .before .before .before .before .before .before .before .before .before .before .pre .1 in
       let o = p .1 .1 .0 in
       let (w, u, G) = gone (c .before .before .before) (p .1 .1 .1 .1 .state) (p .1 .1 .1 .1 .holds) in
       (p .0, (last-inside (c .before .before .before), (record { state = w .0; holds = G .state }, (spoken-told (o .spoken) (G .lines)) .counted)))
@@ -151,26 +157,32 @@ module _ (t : ℕ) where
 
   basic-block-returns-2 : basic-block-lts.Need-returns-2 basic-block-claims basic-block-at basic-block.Post
   basic-block-returns-2 c = λ m E R N H.
-      let p = c .before .before .before .before .before .before .before .before .before .before .before .before .before .before .before .before .before .before .before .before .before .before .before .before .before .before .pre .1 in
+      let p = c .before .before .before .before .before .before .before .before .before .before .before .before .before .before .before .before .before .before .before .before .before .before .before .before .before .before .before .before .before .before .before .pre .1 in
       let (w, u, G) = gone (c .before .before .before .before .before .before) E H in
-      let e = c .before .before .before .before .before .before .before .before .before .before .before .before .before .before .stop-of .ensures in
-      enter-over (c .before .before .before .before .before .before .before .before .before .before .before .before .before .before .before .before .before .before .before .before .before .before .before .before .before .before .args .left) (p .1 .1 .1 .0) E m (formed-accepted (p .0 .formed)) u (G .lines) (ap (λ (k : ℕ). k - 1) e)
+      let e = c .before .before .before .before .before .before .before .before .before .before .before .before .before .before .before .before .before .before .before .stop-of .ensures in
+      enter-over (c .before .before .before .before .before .before .before .before .before .before .before .before .before .before .before .before .before .before .before .before .before .before .before .before .before .before .before .before .before .before .before .args .left) (p .1 .1 .1 .0) E m (formed-accepted (p .0 .formed)) u (G .lines) (ap (λ (k : ℕ). k - 1) e)
       (returns-is _ _ (rw e at (sym (c .before .before .before .before .before .op-of .ensures) ∙ c .before .before .before .before .if2 .taken))) R N (c .before .before .returned .ensures (w .0) (G .state))
+
+  basic-block-slice-aggregate-terminator : basic-block-lts.Need-slice-aggregate-terminator basic-block-claims basic-block-at basic-block.Post
+  basic-block-slice-aggregate-terminator c = search needs
+
+  basic-block-slice-aggregate-terminator-2 : basic-block-lts.Need-slice-aggregate-terminator-2 basic-block-claims basic-block-at basic-block.Post
+  basic-block-slice-aggregate-terminator-2 c = search needs
 
   basic-block-terminator-requires : basic-block-lts.Need-terminator-requires basic-block-claims basic-block-at basic-block.Post
   basic-block-terminator-requires c κs =
-      let p = c .before .before .before .before .before .before .before .before .before .before .before .before .before .before .before .before .before .before .before .before .before .before .before .before .before .before .before .pre .1 in
+      let p = c .before .before .before .before .before .before .before .before .before .before .before .before .before .before .before .before .before .before .before .before .before .before .before .before .before .before .before .before .before .before .before .before .before .before .pre .1 in
       let o = p .1 .1 .0 in
-      let r = c .before .before .before .before .before .before .before .before .before .before .before .before .before .before .before .before .before .before .before .before .before .before .before .before .before .before .before .args .recording in
-      let (w, u, G) = gone (c .before .before .before .before .before .before .before) (p .1 .1 .1 .1 .state) (p .1 .1 .1 .1 .holds) in (
-        omega (arith, c .before .before .before .before .before .before .before .before .before .before .before .before .before .before .before .before .before .before .before .before .before .before .before .before .before .before .before .pre .0),
+      let r = c .before .before .before .before .before .before .before .before .before .before .before .before .before .before .before .before .before .before .before .before .before .before .before .before .before .before .before .before .before .before .before .before .before .before .args .recording in
+      let (w, u, G) = gone (c .before .before .before .before .before .before .before .before .before) (p .1 .1 .1 .1 .state) (p .1 .1 .1 .1 .holds) in (
+        omega (arith, c .before .before .before .before .before .before .before .before .before .before .before .before .before .before .before .before .before .before .before .before .before .before .before .before .before .before .before .before .before .before .before .before .before .before .pre .0),
         (
           p .0,
           (
             p .1 .0,
             (
               record { memory = telling r (w .1) (o .memory); is = told-remembers r (w .1) (o .is); spoken = spoken-told (o .spoken) (G .lines) },
-              (p .1 .1 .1 .0, ((c .before .before .before .before .before .before .before .before .before .before .before .before .before .before .before .before .start-of .ensures, c .before .before .before .before .before .before .before .before .before .before .before .before .before .before .before .stop-of .ensures), record { state = w .0; holds = G .state })),
+              (p .1 .1 .1 .0, ((c .before .before .before .before .before .before .before .before .before .before .before .before .before .before .before .before .before .before .before .before .before .before .before .start-of .ensures, c .before .before .before .before .before .before .before .before .before .before .before .before .before .before .before .before .before .before .before .before .before .before .stop-of .ensures), record { state = w .0; holds = G .state })),
             ),
           ),
         ),
@@ -193,12 +205,12 @@ module _ (t : ℕ) where
 
   basic-block-returns-3 : basic-block-lts.Need-returns-3 basic-block-claims basic-block-at basic-block.Post
   basic-block-returns-3 c = λ m E R N H.
-      let p = c .before .before .before .before .before .before .before .before .before .before .before .before .before .before .before .before .before .before .before .before .before .before .before .before .before .before .before .before .before .before .before .before .before .before .before .before .before .before .pre .1 in
-      let r = c .before .before .before .before .before .before .before .before .before .before .before .before .before .before .before .before .before .before .before .before .before .before .before .before .before .before .before .before .before .before .before .before .before .before .before .before .before .before .args .recording in
-      let (w, u, G) = gone (c .before .before .before .before .before .before .before .before .before .before .before .before .before .before .before .before .before .before) E H in
-      let e = c .before .before .before .before .before .before .before .before .before .before .before .before .before .before .before .before .before .before .before .before .before .before .before .before .before .before .stop-of .ensures in
-      enter-leave (c .before .before .before .before .before .before .before .before .before .before .before .before .before .before .before .before .before .before .before .before .before .before .before .before .before .before .before .before .before .before .before .before .before .before .before .before .before .before .args .left) (p .1 .1 .1 .0) E m (formed-accepted (p .0 .formed)) u (G .lines)
-      (returns-not _ _ (λ d. c .before .before .before .before .before .before .before .before .before .before .before .before .before .before .before .before .if2 .left (c .before .before .before .before .before .before .before .before .before .before .before .before .before .before .before .before .before .op-of .ensures ∙ rw e d)))
+      let p = c .before .before .before .before .before .before .before .before .before .before .before .before .before .before .before .before .before .before .before .before .before .before .before .before .before .before .before .before .before .before .before .before .before .before .before .before .before .before .before .before .before .before .before .before .before .pre .1 in
+      let r = c .before .before .before .before .before .before .before .before .before .before .before .before .before .before .before .before .before .before .before .before .before .before .before .before .before .before .before .before .before .before .before .before .before .before .before .before .before .before .before .before .before .before .before .before .before .args .recording in
+      let (w, u, G) = gone (c .before .before .before .before .before .before .before .before .before .before .before .before .before .before .before .before .before .before .before .before) E H in
+      let e = c .before .before .before .before .before .before .before .before .before .before .before .before .before .before .before .before .before .before .before .before .before .before .before .before .before .before .before .before .before .before .before .before .before .stop-of .ensures in
+      enter-leave (c .before .before .before .before .before .before .before .before .before .before .before .before .before .before .before .before .before .before .before .before .before .before .before .before .before .before .before .before .before .before .before .before .before .before .before .before .before .before .before .before .before .before .before .before .before .args .left) (p .1 .1 .1 .0) E m (formed-accepted (p .0 .formed)) u (G .lines)
+      (returns-not _ _ (λ d. c .before .before .before .before .before .before .before .before .before .before .before .before .before .before .before .before .before .before .if2 .left (c .before .before .before .before .before .before .before .before .before .before .before .before .before .before .before .before .before .before .before .op-of .ensures ∙ rw e d)))
       (c .before .before .before .before .before .before .before .before .before .before .terminator .ensures (telling r (w .1) m) (w .0) (told-remembers r (w .1) R) (spoken-told N (G .lines)) (G .state))
 
   goto-mul-wide : goto-lts.Need-mul-wide goto-claims goto-at goto.Post
@@ -280,19 +292,19 @@ module _ (t : ℕ) where
       (rw z at (c .before .before .before .before .before .before .before .before .before .before .basic-block .ensures m E R N H))
 
   -- the item at hand is one of the block
-  item-holds : (c : terminator-lts.In-loop terminator-claims terminator-at terminator.Post terminator-Inv-loop terminator-μ-loop) → In-block (c .before .before .before .before .before .before .before .before .before .before .before .before .before .before .args .fun .now) (c .before .before .before .before .before .before .before .before .before .before .before .before .before .before .args .b) (c .before .loop .i)
+  item-holds : (c : terminator-lts.In-loop terminator-claims terminator-at terminator.Post terminator-Inv-loop terminator-μ-loop) → In-block (c .before .before .before .before .before .before .before .before .before .before .before .before .before .before .before .before .args .fun .now) (c .before .before .before .before .before .before .before .before .before .before .before .before .before .before .before .before .args .b) (c .before .loop .i)
   item-holds c =
-      let p = c .before .before .before .before .before .before .before .before .before .before .before .before .before .before .pre .1 in
+      let p = c .before .before .before .before .before .before .before .before .before .before .before .before .before .before .before .before .pre .1 in
       record { block = p .1 .1 .1 .0; low = c .before .loop .inv .low; high = omega (arith, c .loop-test .taken, p .1 .1 .1 .1 .0 .1) }
 
   -- and of the record
-  item-inside : (c : terminator-lts.In-loop terminator-claims terminator-at terminator.Post terminator-Inv-loop terminator-μ-loop) → c .before .loop .i < nitems (c .before .before .before .before .before .before .before .before .before .before .before .before .before .before .args .fun .now)
-  item-inside c = omega (arith, (item-holds c) .high, stop-inside (formed-accepted (c .before .before .before .before .before .before .before .before .before .before .before .before .before .before .pre .1 .0 .formed)) (c .before .before .before .before .before .before .before .before .before .before .before .before .before .before .args .b))
+  item-inside : (c : terminator-lts.In-loop terminator-claims terminator-at terminator.Post terminator-Inv-loop terminator-μ-loop) → c .before .loop .i < nitems (c .before .before .before .before .before .before .before .before .before .before .before .before .before .before .before .before .args .fun .now)
+  item-inside c = omega (arith, (item-holds c) .high, stop-inside (formed-accepted (c .before .before .before .before .before .before .before .before .before .before .before .before .before .before .before .before .pre .1 .0 .formed)) (c .before .before .before .before .before .before .before .before .before .before .before .before .before .before .before .before .args .b))
 
   -- the next target
-  next : (c : terminator-lts.Then1 terminator-claims terminator-at terminator.Post terminator-Inv-loop terminator-μ-loop) → let a = c .before .before .before .before .before .before .before .before .before .before .before .before .before .before .before .before .args in let l = c .before .before .before .loop in
+  next : (c : terminator-lts.Then1 terminator-claims terminator-at terminator.Post terminator-Inv-loop terminator-μ-loop) → let a = c .before .before .before .before .before .before .before .before .before .before .before .before .before .before .before .before .before .before .args in let l = c .before .before .before .loop in
       (m : Memory) (E : Forest) → Remembers (a .types .now) (a .fun .now) m (arrays (a .kept .now) (a .visited .now) (a .waits .now) (a .forms .now) (a .whats .now))
-      → Spoken (a .fun .now) (a .recording) (m .lines) (a .out .now) (a .o) → Holds (a .types .now) (local-types (a .fun .now)) (value (a .s)) E
+      → Spoken (a .fun .now) (a .recording) (m .lines) (a .out .now) (a .o) → Holds (a .types .now) (local-types (a .fun .now)) (value (state-in (a .fs .now) (a .ws .now) (a .n))) E
       → (L : Left (a .types .now) (a .fun .now) (a .recording) (a .left) (a .b) (c .before .before .before .before .before .plan-of .result) E m (arrays (a .kept .now) (a .visited .now) (a .waits .now) (a .forms .now) (a .whats .now)) (a .out .now) (l .i)
       (arrays (l .kept) (a .visited .now) (l .waits) (l .forms) (l .whats)) (l .out) (l .q))
       × Aimed (a .types .now) (a .fun .now) (a .recording) (a .left) (a .b) (c .before .before .before .before .before .plan-of .result) E m (l .i) (L .memory)
@@ -302,7 +314,7 @@ module _ (t : ℕ) where
 
   terminator-plan-of-requires : terminator-lts.Need-plan-of-requires terminator-claims terminator-at terminator.Post terminator-Inv-loop terminator-μ-loop
   terminator-plan-of-requires c κs =
-      let p = c .before .before .before .before .before .before .before .before .before .before .pre .1 in
+      let p = c .before .before .before .before .before .before .before .before .before .before .before .before .pre .1 in
       (p .0, (p .1 .1 .1 .0, (p .1 .1 .1 .1 .0, p .1 .1 .1 .1 .1)))
 
   terminator-enum-known-p : terminator-lts.Need-enum-known-p terminator-claims terminator-at terminator.Post terminator-Inv-loop terminator-μ-loop
@@ -314,7 +326,7 @@ module _ (t : ℕ) where
 
   terminator-loop-holds : terminator-lts.Need-loop-holds terminator-claims terminator-at terminator.Post terminator-Inv-loop terminator-μ-loop
   terminator-loop-holds c =
-      let p = c .before .before .before .before .before .before .before .before .before .before .before .before .pre .1 in
+      let p = c .before .before .before .before .before .before .before .before .before .before .before .before .before .before .pre .1 in
       let z = p .1 .1 .1 .1 .0 .0 in
       let l = p .1 .1 .1 .0 in
       record {
@@ -326,11 +338,11 @@ module _ (t : ℕ) where
       }
 
   terminator-op-of-requires : terminator-lts.Need-op-of-requires terminator-claims terminator-at terminator.Post terminator-Inv-loop terminator-μ-loop
-  terminator-op-of-requires c κs = (c .before .before .before .before .before .before .before .before .before .before .before .before .before .before .pre .1 .0 .formed .laid, item-inside c)
+  terminator-op-of-requires c κs = (c .before .before .before .before .before .before .before .before .before .before .before .before .before .before .before .before .pre .1 .0 .formed .laid, item-inside c)
 
   terminator-target-state-requires : terminator-lts.Need-target-state-requires terminator-claims terminator-at terminator.Post terminator-Inv-loop terminator-μ-loop
   terminator-target-state-requires c κs =
-      let p = c .before .before .before .before .before .before .before .before .before .before .before .before .before .before .before .before .pre .1 in
+      let p = c .before .before .before .before .before .before .before .before .before .before .before .before .before .before .before .before .before .before .pre .1 in
       let (L, N) = next c (p .1 .1 .0 .memory) (p .1 .1 .1 .1 .1 .state) (p .1 .1 .0 .is) (p .1 .1 .0 .spoken) (p .1 .1 .1 .1 .1 .holds) in
       let P = c .before .before .before .before .before .plan-of .ensures _ (p .1 .1 .1 .1 .1 .holds) in (
         p .0,
@@ -351,18 +363,18 @@ module _ (t : ℕ) where
       )
 
   terminator-arg-of-requires : terminator-lts.Need-arg-of-requires terminator-claims terminator-at terminator.Post terminator-Inv-loop terminator-μ-loop
-  terminator-arg-of-requires c κs = (c .before .before .before .before .before .before .before .before .before .before .before .before .before .before .before .before .before .pre .1 .0 .formed .laid, item-inside (c .before .before .before))
+  terminator-arg-of-requires c κs = (c .before .before .before .before .before .before .before .before .before .before .before .before .before .before .before .before .before .before .before .pre .1 .0 .formed .laid, item-inside (c .before .before .before))
 
   terminator-wide-requires : terminator-lts.Need-wide-requires terminator-claims terminator-at terminator.Post terminator-Inv-loop terminator-μ-loop
   terminator-wide-requires c κs = search needs
 
   terminator-goto-requires : terminator-lts.Need-goto-requires terminator-claims terminator-at terminator.Post terminator-Inv-loop terminator-μ-loop
   terminator-goto-requires c κs =
-      let p = c .before .before .before .before .before .before .before .before .before .before .before .before .before .before .before .before .before .before .before .before .before .before .before .before .pre .1 in
+      let p = c .before .before .before .before .before .before .before .before .before .before .before .before .before .before .before .before .before .before .before .before .before .before .before .before .before .before .pre .1 in
       let h = p .1 .1 .1 .1 .1 in
       let (L, N) = next (c .before .before .before .before .before .before .before .before) (p .1 .1 .0 .memory) (h .state) (p .1 .1 .0 .is) (p .1 .1 .0 .spoken) (h .holds) in
       let k = c .before .before .before .before .before .wide .ensures ∙ c .before .before .before .before .before .before .arg-of .ensures in (
-        omega (arith, c .before .before .before .before .before .before .before .before .before .before .before .before .before .before .before .before .before .before .before .before .before .before .before .before .pre .0),
+        omega (arith, c .before .before .before .before .before .before .before .before .before .before .before .before .before .before .before .before .before .before .before .before .before .before .before .before .before .before .pre .0),
         (
           p .0,
           (
@@ -406,14 +418,14 @@ module _ (t : ℕ) where
       left-refused L N (rw (k, c .before .v2 .given .1) at (c .before .before .before .before .before .before .before .before .before .before .before .before .before .goto .ensures (L .memory) (N .state) (L .is) (L .spoken) (c .before .before .before .before .before .before .before .before .before .before .before .before .before .before .before .before .before .before .before .before .before .target-state .ensures E (N .state) H (N .by))))
 
   terminator-add-i : terminator-lts.Need-add-i terminator-claims terminator-at terminator.Post terminator-Inv-loop terminator-μ-loop
-  terminator-add-i c = record { fits = omega (arith, item-inside (c .before .before), c .before .before .before .before .before .before .before .before .before .before .before .before .before .before .before .before .pre .1 .0 .formed .laid .most-items) }
+  terminator-add-i c = record { fits = omega (arith, item-inside (c .before .before), c .before .before .before .before .before .before .before .before .before .before .before .before .before .before .before .before .before .before .pre .1 .0 .formed .laid .most-items) }
 
   terminator-loop-less : terminator-lts.Need-loop-less terminator-claims terminator-at terminator.Post terminator-Inv-loop terminator-μ-loop
   terminator-loop-less c = omega (arith, c .before .before .loop-test .taken)
 
   terminator-loop-again : terminator-lts.Need-loop-again terminator-claims terminator-at terminator.Post terminator-Inv-loop terminator-μ-loop
   terminator-loop-again c =
-      let a = c .before .before .before .before .before .before .before .before .before .before .before .before .before .before .before .before .args in
+      let a = c .before .before .before .before .before .before .before .before .before .before .before .before .before .before .before .before .before .before .args in
       let I = c .before .before .before .loop .inv in
       let h = (item-holds (c .before .before)) .high in
       ⊎-elim
@@ -460,11 +472,11 @@ module _ (t : ℕ) where
   terminator-returns-3 : terminator-lts.Need-returns-3 terminator-claims terminator-at terminator.Post terminator-Inv-loop terminator-μ-loop
   terminator-returns-3 c = λ m E R N H.
       let I = c .before .loop .inv in
-      left-end (I .left m E R N H) (omega (arith, c .loop-test .left, c .before .before .before .before .before .before .before .before .before .before .before .before .before .before .pre .1 .1 .1 .1 .1 .0 .1))
+      left-end (I .left m E R N H) (omega (arith, c .loop-test .left, c .before .before .before .before .before .before .before .before .before .before .before .before .before .before .before .before .pre .1 .1 .1 .1 .1 .0 .1))
 
 pub +basic-block+goto+terminator-spec : {M : Type 1} → statement M
 +basic-block+goto+terminator-spec =
     close μ-basic-block μ-goto μ-terminator
-    (λ t. basic-block-lts.spec (basic-block-claims t) (basic-block-at t) basic-block.Post (basic-block-start-of-requires t) (basic-block-stop-of-requires t) (basic-block-pass-items-requires t) (basic-block-same-length t) (basic-block-returns t) (basic-block-sub-op-of t) (basic-block-op-of-requires t) (basic-block-sub-returned t) (basic-block-returned-requires t) (basic-block-same-length-2 t) (basic-block-returns-2 t) (basic-block-terminator-requires t) (basic-block-same-length-3 t) (basic-block-same-length-4 t) (basic-block-same-length-5 t) (basic-block-same-length-6 t) (basic-block-same-length-7 t) (basic-block-returns-3 t))
+    (λ t. basic-block-lts.spec (basic-block-claims t) (basic-block-at t) basic-block.Post (basic-block-start-of-requires t) (basic-block-stop-of-requires t) (basic-block-slice-aggregate-pass-items t) (basic-block-slice-aggregate-pass-items-2 t) (basic-block-pass-items-requires t) (basic-block-same-length t) (basic-block-returns t) (basic-block-sub-op-of t) (basic-block-op-of-requires t) (basic-block-sub-returned t) (basic-block-returned-requires t) (basic-block-same-length-2 t) (basic-block-returns-2 t) (basic-block-slice-aggregate-terminator t) (basic-block-slice-aggregate-terminator-2 t) (basic-block-terminator-requires t) (basic-block-same-length-3 t) (basic-block-same-length-4 t) (basic-block-same-length-5 t) (basic-block-same-length-6 t) (basic-block-same-length-7 t) (basic-block-returns-3 t))
     (λ t. goto-lts.spec (goto-claims t) (goto-at t) goto.Post (goto-mul-wide t) (goto-shared-slice-read-wide t) (goto-wide-requires t) (goto-meet-requires t) (goto-same-length t) (goto-same-length-2 t) (goto-same-length-3 t) (goto-same-length-4 t) (goto-same-length-5 t) (goto-returns t) (goto-returns-2 t) (goto-sub-basic-block t) (goto-basic-block-requires t) (goto-same-length-6 t) (goto-same-length-7 t) (goto-same-length-8 t) (goto-same-length-9 t) (goto-same-length-10 t) (goto-returns-3 t))
     (λ t. terminator-lts.spec (terminator-claims t) (terminator-at t) terminator.Post terminator-Inv-loop terminator-μ-loop (terminator-plan-of-requires t) (terminator-enum-known-p t) (terminator-returns t) (terminator-loop-holds t) (terminator-op-of-requires t) (terminator-target-state-requires t) (terminator-arg-of-requires t) (terminator-wide-requires t) (terminator-goto-requires t) (terminator-enum-known-v t) (terminator-enum-known-v-2 t) (terminator-same-length t) (terminator-same-length-2 t) (terminator-same-length-3 t) (terminator-same-length-4 t) (terminator-same-length-5 t) (terminator-returns-2 t) (terminator-add-i t) (terminator-loop-less t) (terminator-loop-again t) (terminator-same-length-6 t) (terminator-same-length-7 t) (terminator-same-length-8 t) (terminator-same-length-9 t) (terminator-same-length-10 t) (terminator-returns-3 t))

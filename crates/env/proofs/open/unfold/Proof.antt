@@ -1,0 +1,26 @@
+-- `env::open::unfold` meets its contract: to open one level is the last step. Assumes nothing.
+use borrow.Author.Needs.{needs}
+use mathlib.Core.Path.{refl}
+use native.Mathlib.Omega.{arith}
+use Rattle.model.specs.Block.{elem-of}
+use Rattle.env.proofs.Lasts.{moves-same, last-unfold}
+use Rattle.env.proofs.open.unfold.Statement.{statement}
+use Rattle.env.proofs.open.unfold.Tie as tie
+
+open-last-requires : tie.Need-open-last-requires
+unfolding elem-of
+open-last-requires c κs = let s = c .before .before .before .before .before .before .before .before .before in (s .pre .0, (s .pre .1 .0, (s .pre .1 .1, (refl, λ z. omega arith))))
+
+same-length : tie.Need-same-length
+same-length c = search needs
+
+same-length-2 : tie.Need-same-length-2
+same-length-2 c = search needs
+
+returns : tie.Need-returns
+returns c =
+    let a = c .before .before .before .before .before .before .before .before .before .before .before .before .before .before .args in
+    λ E q h is. moves-same (last-unfold (a .types .now) (a .locals .now) q E) (c .before .before .before .before .open-last .ensures E q h is)
+
+pub unfold-spec : {M : Type 1} → statement M
+unfold-spec = tie.close (tie.spec open-last-requires same-length same-length-2 returns)
