@@ -7,7 +7,7 @@ use mathlib.Core.Bool.{Bool, true, false, cond}
 use mathlib.Core.List.{List, [], _∷_, _++_, map}
 use mathlib.Core.Option.{Option, none, some}
 use Prim.Native.Nat.{ℕ}
-use Rattle.model.specs.Answer.{run, refused, _>>=_, done, Answer, require}
+use Rattle.model.specs.Answer.{run, refused, _>>=_, done, Answer, require, earlier}
 use Rattle.base.specs.Tests.{clash}
 
 -- by cases on an answer: `split-answer (walk Γ act p s) (λ r e. ..) (λ u e. ..)`, with e in reach of `cc`
@@ -95,11 +95,6 @@ then-done (done x) e = (x, refl, e)
 abbrev pub refusal : {A : Type 0} → Answer A → Option ℕ
 refusal (refused n) = some n
 refusal (done a) = none
-
--- the first of two
-abbrev pub earlier : Option ℕ → Option ℕ → Option ℕ
-earlier none b = b
-earlier (some n) b = some n
 
 -- a step is refused as its first part is, else as its second
 pub refusal-bind : {A B : Type 0} (a : Answer A) (f : A → Answer B) {r : Option ℕ} → ((x : A) → refusal (f x) ≡ r)

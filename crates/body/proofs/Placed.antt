@@ -16,11 +16,11 @@ use Rattle.model.specs.Block.{root-before, spot-before, uses-place, entry-point
 use Rattle.model.specs.Frame.{Line, mark}
 use Rattle.model.specs.Record.{Entry, point-entry}
 use Rattle.model.specs.Calls.{spot-of}
-use Rattle.base.specs.Tests.{clash}
+use Rattle.model.specs.Rounds.{elem}
 use Rattle.base.specs.Answer.{bind-same}
 use Rattle.base.specs.Function.{FunctionFacts, function-facts, length-local-types}
 use Rattle.laws.specs.Places.{used-limits}
-use Rattle.laws.specs.Refusals.{only-at, running, projection-refusals}
+use Rattle.laws.specs.Refusals.{one-apart, only-at, running, projection-refusals}
 use Rattle.records.specs.Here.{Holds}
 use Rattle.graph.specs.Used.{place-used}
 use Rattle.mir.specs.Parts.{ops-part, args-part}
@@ -38,10 +38,6 @@ use Rattle.body.proofs.Runs.{Run, behind, uses-pass, uses-none}
 use Rattle.body.proofs.Told.{answer-refused, answer-nothing, answer-fold, answer-unfold, fold-entries, unfold-entries, unfold-short}
 use Rattle.body.proofs.Passing.{tells-none, tells-one, refused-passes, done-passes}
 
--- a run's refusals are not 0
-running-some : {n : ℕ} → running n ≡ true → n ≢ 0
-running-some e z = clash (cc)
-
 module _ {Γ os fn : List ℕ} (A : Accepted Γ os fn) (i : ℕ) (l : i < nitems fn) (u : uses-place fn i ≡ true) where
   -- the laws of crate graph hold
   abbrev F : FunctionFacts fn
@@ -58,8 +54,9 @@ module _ {Γ os fn : List ℕ} (A : Accepted Γ os fn) (i : ℕ) (l : i < nitems
 
   -- it is not refused with 0
   refused-some : {E : Forest} {s : State} {n : ℕ} → Holds Γ (local-types fn) (value s) E → projection Γ (spot-before fn i) E ≡ refused n → n ≢ 0
-  refused-some h e = running-some (only-at (projection-refusals Γ (spot-before fn i) (h .trees .fits)
-      (rw (length-local-types F) ((used-limits (nlocals fn) (spot-before fn i) (place-used F (A .places) l u)) .known))) e)
+  unfolding elem
+  refused-some {n} h e = one-apart running 0 n (only-at (projection-refusals Γ (spot-before fn i) (h .trees .fits)
+      (rw (length-local-types F) ((used-limits (nlocals fn) (spot-before fn i) (place-used F (A .places) l u)) .known))) e) refl
 
   module _ (locals ops args : List ℕ) (t : locals ≡ local-types fn) (p : ops ≡ ops-part fn (root-before fn i) i) (q : args ≡ args-part fn (root-before fn i) i) where
     -- the items are the place

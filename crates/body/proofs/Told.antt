@@ -19,30 +19,15 @@ use Rattle.model.specs.Record.{Entry, elem-entry, verb-entry, point-entry, line
 use Rattle.model.specs.Calls.{Recorded, nothing, fold, unfold-at, recorded-verb, recorded-as, spot-of}
 use Rattle.base.specs.Tests.{split, clash}
 use Rattle.base.specs.Answer.{good-at, split-answer}
+use Rattle.laws.specs.Places.{base-first, base-short}
 use Rattle.laws.specs.Recorded.{numbered, projection-recording}
-use Rattle.records.specs.Spots.{spot-entries, place-entries, spot-items}
+use Rattle.records.specs.Spots.{spot-entries, place-entries, spot-items, take-entries}
 use Rattle.records.specs.Pairs.{pairs-halves, take-pairs}
 use Rattle.blocks.proofs.Elements.{spot-ops, spot-args}
 use Rattle.env.specs.Answers.{recorded, projected}
 use Rattle.env.specs.declared.project.Projected.the-variants.{Nothing, Fold as Folds, Unfold as Unfolds, Refused}
 
 -- THE ITEMS
-
--- the walked place without its last element comes first
-base-first : (p : Place) → take (length (base p)) p ≡ base p
-base-first [] = refl
-base-first (e ∷ p) = split (stops p) (λ d. rw d refl) (λ d. rw d (ap (λ (l : Place). e ∷ l) (base-first p)))
-
--- and is no longer
-base-short : (p : Place) → length (base p) ≤ length p
-base-short [] = omega arith
-base-short (e ∷ p) = split (stops p) (λ d. rw d (omega arith)) (λ d. rw d (omega (arith, base-short p)))
-
--- the first entries of a place are its first elements'
-take-entries : (n : ℕ) (p : Place) → take n (place-entries p) ≡ place-entries (take n p)
-take-entries zero p = refl
-take-entries (suc n) [] = refl
-take-entries (suc n) (e ∷ p) = ap (λ (l : List Entry). elem-entry e ∷ l) (take-entries n p)
 
 module _ (ops args : List ℕ) (q : Spot) (is : spot-of ops args ≡ some q) where
   -- the first n items

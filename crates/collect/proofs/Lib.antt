@@ -2,3 +2,4 @@
 pub mod Passing
 pub mod Collected
 pub mod Called
+pub mod Promised

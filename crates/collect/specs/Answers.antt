@@ -1,5 +1,6 @@
 -- The code's answers as model's.
 use mathlib.Core.Path.{_≡_}
+use mathlib.Core.Logic.{_↔_}
 use mathlib.Core.Bool.{cond}
 use mathlib.Core.List.{List, [], _∷_, _++_, map}
 use Prim.Native.Nat.{ℕ}
@@ -12,7 +13,10 @@ use Rattle.model.specs.Place.{At}
 use Rattle.model.specs.Collect.{folds-at-ret}
 use Rattle.model.specs.Record.{Entry, writable, lent}
 use Rattle.model.specs.Calls.{written}
+use Rattle.model.specs.Promised.{One-of, collect-numbers, unfolds-numbers, folds-numbers, Collect-Promise, Unfolds-Promise, Folds-Promise, Clashes, Bare}
 use Rattle.records.specs.Here.{CodedAll}
+use Rattle.state.specs.Value.{value}
+use Rattle.state.specs.declared.nodes.State.{State}
 use Rattle.statements.specs.declared.Out.{Out}
 use Rattle.statements.specs.declared.Point.{Point}
 use Rattle.statements.specs.Kept.{Counted, Puts}
@@ -78,3 +82,22 @@ buffer n (done ws) = lent n ws
 pub record Writes (n : ℕ) (a : Answer (List ℕ)) (r : Record) (out′ : List ℕ) : Type 0 where
   pub answer : r ≡ counts a
   pub left : out′ ≡ buffer n a
+
+-- WHAT THE CALLS PROMISE BESIDE THAT: with which numbers each refuses, where the statements in the buffer lead, and when 6 and 7 are given
+
+-- from one state to another
+pub record Leads (Γ locals : List ℕ) (s e : State) (r : Record) (out′ : List ℕ) : Type 0 where
+  pub numbered : (n : ℕ) → r ≡ Refusal n → One-of collect-numbers n
+  pub leads : (k n : ℕ) → r ≡ Counts k n → Collect-Promise Γ locals (value s) (value e) out′
+  pub clashes : (n : ℕ) → ((r ≡ Refusal n) × One-of (6 ∷ 7 ∷ []) n) ↔ Clashes Γ locals (value s) (value e) n
+
+-- from all folded
+pub record Opens (Γ locals : List ℕ) (s : State) (r : Record) (out′ : List ℕ) : Type 0 where
+  pub numbered : (n : ℕ) → r ≡ Refusal n → One-of unfolds-numbers n
+  pub leads : (k n : ℕ) → r ≡ Counts k n → Unfolds-Promise Γ locals (value s) out′
+  pub bare : (r ≡ Refusal 7) ↔ Bare Γ locals (value s)
+
+-- at return, of the locals 1 to a
+pub record Settles (Γ locals : List ℕ) (a : ℕ) (s : State) (r : Record) (out′ : List ℕ) : Type 0 where
+  pub numbered : (n : ℕ) → r ≡ Refusal n → One-of folds-numbers n
+  pub leads : (k n : ℕ) → r ≡ Counts k n → Folds-Promise Γ locals a (value s) out′

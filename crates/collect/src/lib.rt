@@ -9,7 +9,7 @@ ghost use Rattle.model.specs.Record.{Entry};
 ghost use Rattle.model.specs.Calls.{call-collect, call-unfolds, call-folds};
 ghost use Rattle.state.specs.Value.{value};
 ghost use Rattle.statements.specs.Kept.{Counted, Kept};
-ghost use Rattle.collect.specs.Answers.{begin, start, refuses, finishes, writes, Writes, Collects, Ready-to};
+ghost use Rattle.collect.specs.Answers.{begin, start, refuses, finishes, writes, Writes, Collects, Ready-to, Leads, Opens, Settles};
 
 pub mod states;
 
@@ -88,6 +88,7 @@ pub fn collect_fold_unfolds(
     out: &mut [u32],
 ) -> Record
     ensures { λ r. ⌜ Writes (length (now (out .entry))) (call-collect (now (types .entry)) (now (locals .entry)) (value s) (value e) (length (now (out .entry)))) r (now (out .exit)) ⌝ }
+    ensures promised { λ r. ⌜ Leads (now (types .entry)) (now (locals .entry)) s e r (now (out .exit)) ⌝ }
 {
     let mut offs = [0u32; 4096];
     let a = check_locals(types, locals, &mut offs);
@@ -107,6 +108,7 @@ pub fn collect_fold_unfolds(
 // From all folded to a state.
 pub fn collect_unfolds(types: &[u32], locals: &[u32], s: State, out: &mut [u32]) -> Record
     ensures { λ r. ⌜ Writes (length (now (out .entry))) (call-unfolds (now (types .entry)) (now (locals .entry)) (value s) (length (now (out .entry)))) r (now (out .exit)) ⌝ }
+    ensures promised { λ r. ⌜ Opens (now (types .entry)) (now (locals .entry)) s r (now (out .exit)) ⌝ }
 {
     let mut offs = [0u32; 4096];
     let a = check_locals(types, locals, &mut offs);
@@ -129,6 +131,7 @@ pub fn collect_folds_at_ret(
     out: &mut [u32],
 ) -> Record
     ensures { λ r. ⌜ Writes (length (now (out .entry))) (call-folds (now (types .entry)) (now (locals .entry)) a (value s) (length (now (out .entry)))) r (now (out .exit)) ⌝ }
+    ensures promised { λ r. ⌜ Settles (now (types .entry)) (now (locals .entry)) a s r (now (out .exit)) ⌝ }
 {
     let mut offs = [0u32; 4096];
     let n = check_locals(types, locals, &mut offs);

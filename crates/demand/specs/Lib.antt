@@ -6,7 +6,8 @@ pub mod States
 -- 2.-4. after an accepted first pass the second is accepted (second-accepted); what is stored is a state record's (kept-stored);
 -- 6. THE CEILING: a stored state changes at most 262,656 times: changes-most; 5. demand 3 of an accepted call: whole-demand
 pub mod Whole
--- the numbers with which the passes refuse, 5, 6, 8 and 9: passes-refuse
+-- demand 1: the numbers with which the passes refuse, 5, 6, 8 and 9 (passes-refuse), and the whole-function call (whole-refuses); what `ghosts`
+-- prints (ghosts-answered)
 pub mod Refused
 -- 5. DEMAND 3: demand-3, of model's statement
 pub mod Demand

@@ -22,7 +22,8 @@ use Rattle.laws.specs.Projection.{projection-carry, projection-quiet, downcasti
 use Rattle.laws.specs.Depth.{joins-depths}
 use Rattle.laws.specs.Valid.{Valid, leaves-valid, projection-valid, downcasting-valid}
 use Rattle.laws.specs.Carried.{goto-above}
-use Rattle.laws.specs.Returned.{returned-at, folds-at-ret-carry}
+use Rattle.model.specs.Collect.{returned-at}
+use Rattle.laws.specs.Returned.{folds-at-ret-carry}
 use Rattle.solver.specs.Laws.{Good, Lattice, Collects}
 use Rattle.graph.specs.Trees.{small-good, Trees}
 use Rattle.graph.specs.Bridge.{carries-same}

@@ -14,9 +14,12 @@ use Rattle.model.specs.State as Model
 use Rattle.model.specs.State.{decode, locals-ok, encode}
 use Rattle.model.specs.Place.{Spot, At, used-ok}
 use Rattle.model.specs.Walk.{projection}
-use Rattle.model.specs.Calls.{typed, taken, placed, spot-of, Recorded, recorded-as, call-projection}
+use Rattle.model.specs.Calls.{typed, taken, placed, spot-of, Recorded, nothing, fold, unfold-at, recorded-as, call-projection}
 use Rattle.base.specs.Tests.{split, split-option, clash}
-use Rattle.base.specs.Answer.{split-answer}
+use Rattle.base.specs.Answer.{split-answer, good-at}
+use Rattle.laws.specs.Refusals.{Only, only-at}
+use Rattle.calls.specs.Numbers.{projection-refuses}
+use Rattle.calls.specs.Used.{call-used}
 use Rattle.mir.specs.Parts.{Spotted}
 use Rattle.records.specs.Here.{Holds}
 use Rattle.records.specs.Encode.{decode-holds}
@@ -27,7 +30,7 @@ use Rattle.env.specs.declared.project.Projected.the-variants.{Refused}
 use Rattle.env.specs.declared.project.Usage.{Usage}
 use Rattle.env.specs.declared.project.Outcome.the-variants.{Refused as Denied}
 use Rattle.env.specs.declared.project.Moved.{Moved}
-use Rattle.env.specs.Answers.{Projects, Moves, call-recorded, Records, call-outcome, Gives}
+use Rattle.env.specs.Answers.{recorded, Projects, Moves, call-recorded, Records, call-outcome, Gives, Uses, Refuses}
 use Rattle.env.specs.Given.{Given}
 use Rattle.env.specs.Tested.{Tested}
 
@@ -174,3 +177,43 @@ module _ {Γ locals os : List ℕ} {s : State} {ops args : List ℕ} {r : ℕ} (
     gives-goes z k P =
         let (E, q, d, p) = tested-both t z in
         gives-of (call-goes t ok (λ E q. a E q >>= given-back Γ) z d p ∙ rw (k q p)) (P E q (decode-holds Γ locals (value s) E d) p)
+
+-- WHAT IS PROMISED follows
+
+-- what is recorded is told by the answer
+recorded-one : (v w : Recorded) → recorded v ≡ recorded w → v ≡ w
+recorded-one nothing nothing e = refl
+recorded-one nothing fold e = clash (cc)
+recorded-one nothing (unfold-at n) e = clash (cc)
+recorded-one fold nothing e = clash (cc)
+recorded-one fold fold e = refl
+recorded-one fold (unfold-at n) e = clash (cc)
+recorded-one (unfold-at m) nothing e = clash (cc)
+recorded-one (unfold-at m) fold e = clash (cc)
+recorded-one (unfold-at m) (unfold-at n) e = cc
+
+-- and is no refusal
+recorded-goes : (v : Recorded) (n : ℕ) {P : Type 0} → recorded v ≡ Refused n → P
+recorded-goes nothing n e = clash (cc)
+recorded-goes fold n e = clash (cc)
+recorded-goes (unfold-at m) n e = clash (cc)
+
+-- of a projection
+pub projection-promised : (Γ locals : List ℕ) (s : State) (ops args : List ℕ) {r : Usage} → Records s (call-projection Γ locals (value s) ops args) r
+    → Records s (call-projection Γ locals (value s) ops args) r × Uses Γ locals s ops args r
+projection-promised Γ locals s ops args {r} R =
+    let a = call-projection Γ locals (value s) ops args in (
+      R,
+      record {
+        numbered = λ n h. split-answer a
+            (λ k d. only-at (projection-refuses Γ locals (value s) ops args) (cc (R .answer)))
+            (λ w d. recorded-goes (w .0) n (cc (R .answer)));
+        used = λ v h. split-answer a
+            (λ k d. recorded-goes v k (cc (R .answer)))
+            (λ w d. let f : w .0 ≡ v = recorded-one (w .0) v (cc (R .answer)) in rw (← f, R .moved w d) (good-at (call-used Γ locals (value s) ops args) d));
+      },
+    )
+
+-- of the other calls
+pub gives-promised : {ns : List ℕ} {s : State} {a : Answer Model.State} {r : Moved} → Only ns a → Gives s a r → Gives s a r × Refuses ns r
+gives-promised {a} o G = (G, λ n h. split-answer a (λ k d. only-at o (cc (G .answer))) (λ w d. clash (cc (G .answer))))

@@ -8,6 +8,7 @@ use Rattle.model.specs.State as Model
 use Rattle.model.specs.Place.{Elem, Verb, Spot, At}
 use Rattle.model.specs.Walk.{nth, walk, carry-at, fitting}
 use Rattle.model.specs.Calls.{Recorded, nothing, fold, unfold-at, recorded-as, statement-at}
+use Rattle.model.specs.Promised.{One-of, use-numbers, Use-Promise}
 use Rattle.records.specs.Here.{Holds}
 use Rattle.walk.specs.Way.{acts}
 use Rattle.walk.specs.Applied.{Opens, Carried}
@@ -109,3 +110,12 @@ pub record Gives (s : State) (a : Answer Model.State) (r : Moved) : Type 0 where
   pub answer : r .answer ≡ call-outcome a
   pub moved : (m : Model.State) → a ≡ done m → value (r .state) ≡ m
   pub kept : (n : ℕ) → a ≡ refused n → r .state ≡ s
+
+-- what a projection promises beside that: with which numbers it refuses, and what holds of what it records and of the state that it gives
+pub record Uses (Γ locals : List ℕ) (s : State) (ops args : List ℕ) (r : Usage) : Type 0 where
+  pub numbered : (n : ℕ) → r .answer ≡ Refused n → One-of use-numbers n
+  pub used : (w : Recorded) → r .answer ≡ recorded w → Use-Promise Γ locals (value s) ops args w (value (r .state))
+
+-- a call that gives a state alone refuses with these numbers
+abbrev pub Refuses : List ℕ → Moved → Type 0
+Refuses ns r = (n : ℕ) → r .answer ≡ Denied n → One-of ns n

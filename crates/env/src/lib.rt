@@ -5,9 +5,10 @@ ghost use Prim.Native.Nat.{_≤_};
 ghost use lib.ListN.{length};
 ghost use Rattle.model.specs.Place.{Spot, Fold, Unfold, fold-ok};
 ghost use Rattle.model.specs.Calls.{spot-of, call-projection, call-downcast, call-carry};
+ghost use Rattle.model.specs.Promised.{use-numbers, unfold-numbers};
 ghost use Rattle.mir.specs.Parts.{Spotted};
 ghost use Rattle.state.specs.Value.{value};
-ghost use Rattle.env.specs.Answers.{Records, Gives};
+ghost use Rattle.env.specs.Answers.{Records, Gives, Uses, Refuses};
 ghost use Rattle.env.specs.Tested.{Tested};
 
 pub mod open;
@@ -61,6 +62,7 @@ fn fold_ok(ops: &[u32], args: &[u32], locals: usize) -> bool
 // `Env::projection`: the place is used. What is recorded, and the state after; a refusal gives the state back as it came.
 pub fn projection(types: &[u32], locals: &[u32], s: State, ops: &[u32], args: &[u32]) -> Usage
     ensures { λ r. ⌜ Records s (call-projection (now (types .entry)) (now (locals .entry)) (value s) (now (ops .entry)) (now (args .entry))) r ⌝ }
+    ensures promised { λ r. ⌜ Uses (now (types .entry)) (now (locals .entry)) s (now (ops .entry)) (now (args .entry)) r ⌝ }
 {
     let mut offs = [0u32; 4096];
     let r = check_use(types, &mut offs, locals, s, ops, args);
@@ -107,6 +109,7 @@ pub fn downcast(
     variant: u32,
 ) -> Moved
     ensures { λ r. ⌜ Gives s (call-downcast (now (types .entry)) (now (locals .entry)) (value s) (now (ops .entry)) (now (args .entry)) variant) r ⌝ }
+    ensures promised { λ r. ⌜ Refuses use-numbers r ⌝ }
 {
     let mut offs = [0u32; 4096];
     let r = check_use(types, &mut offs, locals, s, ops, args);
@@ -147,6 +150,7 @@ pub fn downcast(
 // Carries out a fold: walk the place, then fold the node.
 pub fn fold(types: &[u32], locals: &[u32], s: State, ops: &[u32], args: &[u32]) -> Moved
     ensures { λ r. ⌜ Gives s (call-carry (now (types .entry)) (now (locals .entry)) Fold (value s) (now (ops .entry)) (now (args .entry))) r ⌝ }
+    ensures promised { λ r. ⌜ Refuses use-numbers r ⌝ }
 {
     let mut offs = [0u32; 4096];
     let r = check_use(types, &mut offs, locals, s, ops, args);
@@ -186,6 +190,7 @@ pub fn fold(types: &[u32], locals: &[u32], s: State, ops: &[u32], args: &[u32]) 
 // Carries out an unfold: walk the place; a folded node opens one level.
 pub fn unfold(types: &[u32], locals: &[u32], s: State, ops: &[u32], args: &[u32]) -> Moved
     ensures { λ r. ⌜ Gives s (call-carry (now (types .entry)) (now (locals .entry)) Unfold (value s) (now (ops .entry)) (now (args .entry))) r ⌝ }
+    ensures promised { λ r. ⌜ Refuses unfold-numbers r ⌝ }
 {
     let mut offs = [0u32; 4096];
     let r = check_use(types, &mut offs, locals, s, ops, args);

@@ -1,3 +1,2 @@
 -- What the proof of the exported call cites.
-pub mod Numbered
 pub mod Answered

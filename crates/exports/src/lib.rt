@@ -1,6 +1,8 @@
 // The whole-function call for programs in Rust and C, as a static library.
 ghost use mathlib.Core.Path.{_≡_};
+ghost use mathlib.Core.List.{_∷_};
 ghost use Rattle.model.specs.Replay.{Replayed};
+ghost use Rattle.model.specs.Promised.{One-of, whole-numbers};
 ghost use Rattle.exports.specs.Answers.{Exported};
 use fold_unfold::Ghosts;
 use fold_unfold::ghost_statements;
@@ -17,6 +19,7 @@ pub extern "C" fn exports_ghost_statements(
 ) -> u32
     ensures { λ r. ⌜ Exported (now (types .entry)) (now (fun .entry)) (now (forms .entry)) (now (whats .entry)) (now (out .entry)) (now (forms .exit)) (now (whats .exit)) (now (out .exit)) r ⌝ }
     ensures replayed { λ r. ⌜ (r ≡ 0 → Replayed (now (types .entry)) (now (fun .entry)) (now (out .exit))) ⌝ }
+    ensures numbered { λ r. ⌜ One-of (0 ∷ whole-numbers) r ⌝ }
 {
     let g = ghost_statements(types, fun, forms, whats, out);
     match g {

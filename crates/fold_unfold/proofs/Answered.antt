@@ -18,9 +18,11 @@ use Rattle.model.specs.Passes.{Found}
 use Rattle.model.specs.Record.{line-entries, entries, statement-record, writable, lent}
 use Rattle.model.specs.Whole.{Result, passes, with-buffer, shares, accepted, denied, result, shorter, found, whole}
 use Rattle.model.specs.Replay.{Replayed}
+use Rattle.model.specs.Promised.{One-of, whole-numbers}
 use Rattle.base.specs.Tests.{clash, and-left}
 use Rattle.base.specs.Answer.{split-answer}
 use Rattle.demand.specs.Demand.{demand-3}
+use Rattle.demand.specs.Refused.{whole-refuses}
 use Rattle.statements.specs.Kept.{room, Counted, Kept, Finished}
 use Rattle.statements.specs.declared.Out.{Out}
 use Rattle.visit.specs.declared.block.Visit.{Visit}
@@ -139,14 +141,19 @@ module _ {Γ fn fs ws out offs points : List ℕ} {r : ℕ} (C : Checked Γ fn (
             rw (K .statements, K .entries)
             (whole-accepted f (cc) (A .forms f q) (A .whats f q) (F (length (f .lines)) es .written k few d ∙ rw (A .same-out))))
 
--- DEMAND 3
+-- DEMANDS 3 AND 1
 
--- of a call's answer: a record that is given is replayed
+-- of a call's answer: a record that is given is replayed, and a refusal has one of its numbers
 pub with-replay : {Γ fn fs ws out fs′ ws′ out′ : List ℕ} {r : Ghosts} → Whole Γ fn fs ws out fs′ ws′ out′ r
-    → Whole Γ fn fs ws out fs′ ws′ out′ r × ((a b : ℕ) → r ≡ Done a b → Replayed Γ fn out′)
+    → Whole Γ fn fs ws out fs′ ws′ out′ r × (((a b : ℕ) → r ≡ Done a b → Replayed Γ fn out′) × ((n : ℕ) → r ≡ Refused n → One-of whole-numbers n))
 with-replay {Γ} {fn} {fs} {ws} {out} W = (
   W,
-  λ a b e. split-answer ((whole Γ fn (length fs) (length ws) (length out)) .answer)
-      (λ n p. let q = W .answer in clash (cc))
-      (λ c p. rw (W .record-is) (demand-3 Γ fn (length fs) (length ws) (length out) c p)),
+  (
+    λ a b e. split-answer ((whole Γ fn (length fs) (length ws) (length out)) .answer)
+        (λ n p. let q = W .answer in clash (cc))
+        (λ c p. rw (W .record-is) (demand-3 Γ fn (length fs) (length ws) (length out) c p)),
+    λ n e. split-answer ((whole Γ fn (length fs) (length ws) (length out)) .answer)
+        (λ k p. let q = W .answer in whole-refuses Γ fn (length fs) (length ws) (length out) n (cc))
+        (λ c p. let q = W .answer in clash (cc)),
+  ),
 )

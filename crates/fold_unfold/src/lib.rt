@@ -3,8 +3,9 @@ ghost use mathlib.Core.Path.{_≡_};
 ghost use Prim.Native.Nat.{ℕ, _≤_};
 ghost use lib.ListN.{length, getD, replicate};
 ghost use Rattle.model.specs.Replay.{Replayed};
+ghost use Rattle.model.specs.Promised.{One-of, whole-numbers};
 ghost use Rattle.fold_unfold.specs.Answers.{Whole, Checked};
-ghost use Rattle.fold_unfold.specs.declared.Ghosts.the-variants.{Done};
+ghost use Rattle.fold_unfold.specs.declared.Ghosts.the-variants.{Done, Refused};
 
 pub mod run;
 
@@ -76,6 +77,7 @@ pub fn ghost_statements(
 ) -> Ghosts
     ensures { λ r. ⌜ Whole (now (types .entry)) (now (fun .entry)) (now (forms .entry)) (now (whats .entry)) (now (out .entry)) (now (forms .exit)) (now (whats .exit)) (now (out .exit)) r ⌝ }
     ensures replayed { λ r. ⌜ ((a b : ℕ) → r ≡ Done a b → Replayed (now (types .entry)) (now (fun .entry)) (now (out .exit))) ⌝ }
+    ensures numbered { λ r. ⌜ ((n : ℕ) → r ≡ Refused n → One-of whole-numbers n) ⌝ }
 {
     let mut offs = [0u32; 4096];
     let mut points = [0u32; 256];

@@ -11,8 +11,14 @@ use Rattle.model.specs.Block.{entry-point}
 use Rattle.model.specs.Frame.{Line}
 use Rattle.model.specs.Record.{statement-record, lent}
 use Rattle.model.specs.Whole.{accepted, denied, result, found, whole}
-use Rattle.model.specs.Ghosts.{types-length, function-length, function-words, analysed, answer-text, lines-text, printed, ghosts-store, ghosts-buffer}
+use Rattle.model.specs.Ghosts.{types-length, function-length, function-words, analysed, answer-text, lines-text, fresh, close, printed, ghosts, ghosts-store, ghosts-buffer}
 use Rattle.base.specs.Answer.{split-answer}
+use Rattle.model.specs.Promised.{Answered}
+use Rattle.records.specs.Scanned.{scan-pieces, joined}
+use Rattle.demand.specs.Refused.{ghosts-answered}
+use Rattle.text.specs.declared.scan.Scan.{Scan}
+use Rattle.text.specs.Reading.{Reads}
+use Rattle.ghosts.specs.Said.{Ended, Says}
 use Rattle.fold_unfold.specs.declared.Ghosts.{Ghosts}
 use Rattle.fold_unfold.specs.declared.Ghosts.the-variants.{Done, Refused}
 use Rattle.fold_unfold.specs.Answers.{answer-of, Whole}
@@ -64,3 +70,9 @@ module _ (ws fw : List ℕ) (e : fw ≡ function-words ws) where
       → answer-text (entry-point fw) (found (take (types-length ws) ws) fw ghosts-store ghosts-store ghosts-buffer) ≡ printed (done ws)
   unfolding printed analysed
   records-text l = let b = le-leb (length fw) (function-length fw) l in cc
+
+-- WHAT IS PRINTED of a text that has been read to its end is lines of statements, or `refused` and a number of the call's
+pub answered : {s : Scan} {words t t′ : List ℕ} {r : ℕ} → Ended s words
+    → ((ps : List (List ℕ)) → Reads (close (scan-pieces ps fresh)) s words → Says t t′ r (ghosts (joined ps))) → r ≤ length t
+    → ((ps : List (List ℕ)) → Reads (close (scan-pieces ps fresh)) s words → Says t t′ r (ghosts (joined ps))) × ((r ≤ length t) × Answered (take r t′))
+answered E f l = (f, (l, rw (f (E .pieces) (E .reads) .said) (ghosts-answered (joined (E .pieces)))))

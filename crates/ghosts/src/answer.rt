@@ -2,11 +2,12 @@
 ghost use mathlib.Core.Path.{_≡_};
 ghost use mathlib.Core.List.{List};
 ghost use Prim.Native.Nat.{ℕ, _≤_};
-ghost use lib.ListN.{length};
+ghost use lib.ListN.{length, take};
 ghost use Rattle.model.specs.Answer.{done};
 ghost use Rattle.model.specs.Block.{entry-point};
 ghost use Rattle.model.specs.Whole.{found};
 ghost use Rattle.model.specs.Ghosts.{fresh, close, answer-text, printed, ghosts, ghosts-store, ghosts-buffer};
+ghost use Rattle.model.specs.Promised.{Answered};
 ghost use Rattle.records.specs.Scanned.{scan-pieces, joined};
 ghost use Rattle.text.specs.Reading.{Reads};
 ghost use Rattle.ghosts.specs.Said.{Ended, Says};
@@ -70,6 +71,7 @@ pub fn respond(s: Scan, words: &[u32], text: &mut [u8]) -> usize
     requires { ⌜ length (now text) ≡ 14336 ⌝ }
     ensures { λ r. ⌜ ((ps : List (List ℕ)) → Reads (close (scan-pieces ps fresh)) s (now (words .entry)) → Says (now (text .entry)) (now (text .exit)) r (ghosts (joined ps))) ⌝ }
     ensures within { λ r. ⌜ r ≤ length (now (text .entry)) ⌝ }
+    ensures answered { λ r. ⌜ Answered (take r (now (text .exit))) ⌝ }
 {
     if !s.fine {
         return print_refusal(text, 2);

@@ -12,7 +12,11 @@ use Rattle.model.specs.Tree.{Forest, sizes, joins, flagss}
 use Rattle.model.specs.State as Model
 use Rattle.model.specs.Walk.{fitting}
 use Rattle.model.specs.Calls.{call-join}
-use Rattle.base.specs.Tests.{split}
+use Rattle.base.specs.Tests.{split, clash}
+use Rattle.base.specs.Answer.{split-answer, good-at}
+use Rattle.laws.specs.Refusals.{only-at}
+use Rattle.calls.specs.Numbers.{join-refuses}
+use Rattle.calls.specs.Joined.{call-joined}
 use Rattle.mir.specs.Parts.{is-some}
 use Rattle.state.specs.Value.{value}
 use Rattle.state.specs.declared.nodes.State.{State}
@@ -22,7 +26,7 @@ use Rattle.join.specs.declared.trees.Joined.{Joined}
 use Rattle.join.specs.declared.trees.Joined.the-variants.{To, Full}
 use Rattle.join.specs.declared.Flag.the-variants.{Of}
 use Rattle.join.specs.declared.Merged.{Merged}
-use Rattle.join.specs.Answers.{joined, JoinedIn, refusal, flag-of, Joins}
+use Rattle.join.specs.Answers.{joined, JoinedIn, refusal, flag-of, Joins, Promises}
 
 -- a refusal gives the first state back
 pub joins-refused : {s : State} {a : Answer (Bool × Model.State)} {r : Merged} {n : ℕ} → a ≡ refused n → r ≡ refusal n s → Joins s a r
@@ -87,3 +91,19 @@ pub joined-value : {Γ : List ℕ} {S E : Forest} {r : Joined} {of ow : List ℕ
     → _≡_ {A = Model.State} (record { forms = of; whats = ow; nodes = n }) (Model.encode Γ (joins Γ false S E))
 unfolding Model.encode
 joined-value J l e = λ i. record { forms = J .forms l i; whats = J .whats l i; nodes = e i }
+
+-- what is promised follows
+pub promised : (Γ locals : List ℕ) (s e : State) {r : Merged} → Joins s (call-join Γ locals (value s) (value e)) r
+    → Joins s (call-join Γ locals (value s) (value e)) r × Promises Γ locals s e r
+promised Γ locals s e {r} J =
+    let a = call-join Γ locals (value s) (value e) in (
+      J,
+      record {
+        numbered = λ n h. split-answer a
+            (λ k d. only-at (join-refuses Γ locals (value s) (value e)) (cc (J .answer)))
+            (λ w d. clash (cc (J .answer)));
+        joined = λ b h. split-answer a
+            (λ k d. clash (cc (J .answer)))
+            (λ w d. let f : w .0 ≡ b = cc (J .answer) in rw (← f, J .moved w d) (good-at (call-joined Γ locals (value s) (value e)) d));
+      },
+    )

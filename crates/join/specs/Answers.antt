@@ -7,6 +7,7 @@ use lib.Dec.{leb}
 use Rattle.model.specs.Answer.{Answer, refused, done}
 use Rattle.model.specs.Tree.{Forest, sizes, joins, flagss}
 use Rattle.model.specs.State as Model
+use Rattle.model.specs.Promised.{One-of, join-numbers, Join-Promise}
 use Rattle.state.specs.Value.{value}
 use Rattle.state.specs.declared.nodes.State.{State}
 use Rattle.join.specs.declared.trees.Joined.{Joined}
@@ -38,3 +39,8 @@ pub record Joins (s : State) (a : Answer (Bool × Model.State)) (r : Merged) : T
   pub answer : r .answer ≡ flag-of a
   pub moved : (w : Bool × Model.State) → a ≡ done w → value (r .state) ≡ w .1
   pub kept : (n : ℕ) → a ≡ refused n → r .state ≡ s
+
+-- what the call promises beside that: with which numbers it refuses, and what holds of a state that it gives
+pub record Promises (Γ locals : List ℕ) (s e : State) (r : Merged) : Type 0 where
+  pub numbered : (n : ℕ) → r .answer ≡ Refused n → One-of join-numbers n
+  pub joined : (b : Bool) → r .answer ≡ Of b → Join-Promise Γ locals (value s) (value e) b (value (r .state))

@@ -2,7 +2,7 @@
 ghost use mathlib.Core.Path.{_≡_};
 ghost use Rattle.model.specs.Calls.{call-join};
 ghost use Rattle.state.specs.Value.{value};
-ghost use Rattle.join.specs.Answers.{refusal, Joins};
+ghost use Rattle.join.specs.Answers.{refusal, Joins, Promises};
 
 pub mod trees;
 
@@ -35,6 +35,7 @@ fn refused(n: u32, s: State) -> Merged
 // `Env::join`: the first state and its flag.
 pub fn join(types: &[u32], locals: &[u32], s: State, e: State) -> Merged
     ensures { λ r. ⌜ Joins s (call-join (now (types .entry)) (now (locals .entry)) (value s) (value e)) r ⌝ }
+    ensures promised { λ r. ⌜ Promises (now (types .entry)) (now (locals .entry)) s e r ⌝ }
 {
     let mut offs = [0u32; 4096];
     let a = check_locals(types, locals, &mut offs);

@@ -1,13 +1,14 @@
 -- Places by themselves: what follows a downcast, the place without its last element, and places with no index.
-use mathlib.Core.Path.{_≡_, refl, sym}
+use mathlib.Core.Path.{_≡_, refl, sym, ap}
 use mathlib.Core.Bool.{Bool, true, false, cond, true≢false, _&&_}
 use mathlib.Core.List.{[], _∷_}
 use Prim.Native.Nat.{ℕ, _≤_, _<_}
-use lib.ListN.{length}
+use native.Mathlib.Omega.{arith}
+use lib.ListN.{length, take}
 use lib.Dec.{ltb, leb}
-use borrow.Author.Tests.{leb-true, ltb-true}
+use borrow.Author.Tests.{leb-true, ltb-true, lt-ltb, le-leb}
 use Rattle.model.specs.Place.{steps, base, walked, field, deref, downcast, usable, index, Place, stops, Elem, spot-ok, used-ok, Spot, Verb, Fold, Unfold, unfold-ok, fold-ok}
-use Rattle.base.specs.Tests.{split, and-right, and-left}
+use Rattle.base.specs.Tests.{split, and-right, and-left, and-both}
 
 -- is there no element left?
 abbrev pub ended : Place → Bool
@@ -65,6 +66,25 @@ base-walked (deref ∷ p) h = base-more deref p (base-walked p)
 base-walked (field i ∷ p) h = base-more (field i) p (base-walked p)
 base-walked (downcast v ∷ p) h = base-more (downcast v) p (base-walked p)
 base-walked (index ∷ p) h = absurd (true≢false h)
+
+-- it comes first
+pub base-first : (p : Place) → take (length (base p)) p ≡ base p
+base-first [] = refl
+base-first (e ∷ p) = split (stops p) (λ d. rw d refl) (λ d. rw d (ap (λ (l : Place). e ∷ l) (base-first p)))
+
+-- is no longer
+pub base-short : (p : Place) → length (base p) ≤ length p
+base-short [] = omega arith
+base-short (e ∷ p) = split (stops p) (λ d. rw d (omega arith)) (λ d. rw d (omega (arith, base-short p)))
+
+-- and opens no more
+base-steps : (p : Place) → steps (base p) ≤ steps p
+unfolding steps
+base-steps [] = omega arith
+base-steps (deref ∷ p) = split (stops p) (λ d. rw d (omega arith)) (λ d. rw d (omega (arith, base-steps p)))
+base-steps (field i ∷ p) = split (stops p) (λ d. rw d (omega arith)) (λ d. rw d (omega (arith, base-steps p)))
+base-steps (downcast v ∷ p) = split (stops p) (λ d. rw d (omega arith)) (λ d. rw d (omega (arith, base-steps p)))
+base-steps (index ∷ p) = split (stops p) (λ d. rw d (omega arith)) (λ d. rw d (omega arith))
 
 -- NO INDEX
 
@@ -132,3 +152,18 @@ fold-within locals q e =
 pub unfold-within : (locals : ℕ) (q : Spot) → unfold-ok locals q ≡ true → (q .local < locals) × Within Unfold (q .place)
 unfolding unfold-ok
 unfold-within locals q e = let s = spot-limits 63 locals q e in (s .0, s .2)
+
+-- what a place used may record passes the test of its statement: a fold of the place, an unfold of the walked place without its last element
+module _ (locals : ℕ) (q : Spot) (e : used-ok locals q ≡ true) where
+  pub used-fold : fold-ok locals q ≡ true
+  unfolding fold-ok spot-ok
+  used-fold =
+      let u = used-limits locals q e in
+      and-both (and-both (and-both (lt-ltb (q .local) locals (u .known)) (le-leb (length (q .place)) 128 (u .short))) (le-leb (steps (q .place)) 64 (omega (arith, u .near)))) (u .plain)
+
+  pub used-unfold : unfold-ok locals (record { local = q .local; place = base (q .place) }) ≡ true
+  unfolding unfold-ok spot-ok
+  used-unfold =
+      let u = used-limits locals q e in
+      and-both (and-both (lt-ltb (q .local) locals (u .known)) (le-leb (length (base (q .place))) 128 (omega (arith, u .short, base-short (q .place)))))
+      (le-leb (steps (base (q .place))) 63 (omega (arith, u .near, base-steps (q .place))))

@@ -1,48 +1,20 @@
--- The statements owed at a return are never refused: `returned` is the tree that they leave.
+-- The statements owed at a return are never refused, and leave `returned` (model's Collect).
 use mathlib.Core.Path.{_≡_, refl}
-use mathlib.Core.Bool.{true, cond}
+use mathlib.Core.Bool.{true}
 use mathlib.Core.List.{List}
 use Prim.Native.Nat.{ℕ, zero, suc}
 use lib.Dec.{eqb}
 use Rattle.model.specs.Answer.{done}
 use Rattle.model.specs.Types.{kind}
-use Rattle.model.specs.Tree.{Forest, node, nil, more, Tree, leaf, type}
+use Rattle.model.specs.Tree.{Forest, Tree}
 use Rattle.model.specs.Typing.{fit-leaf, fit-node, fit-more, fit-none, Fits, Fit}
 use Rattle.model.specs.Place.{here, Fold}
 use Rattle.model.specs.Walk.{carries, nth, carry, carries-at}
-use Rattle.model.specs.Collect.{firsts, folds, foldss, folds-at-ret}
+use Rattle.model.specs.Collect.{firsts, folds, foldss, folds-at-ret, fold-first, returned, returneds, returned-firsts, returned-at}
 use Rattle.base.specs.Tests.{split}
 use Rattle.base.specs.Kinds.{pointer-mut}
 use Rattle.laws.specs.Sound.{single, Sound, fits-single, Single}
 use Rattle.laws.specs.Hops.{both-run, fold-here, later-run, carry-deref, lift-run}
-
--- the first of several trees is folded
-abbrev pub fold-first : Forest → Forest
-fold-first nil = nil
-fold-first (more s ss) = more (leaf (type s)) ss
-
--- the tree that the statements leave
-unfoldable mutual
-  pub returned : List ℕ → Tree → Tree
-  returned Γ (leaf t) = leaf t
-  returned Γ (node t v ns) = cond (eqb (kind Γ t) 1) (node t v ns)
-      (cond (eqb (kind Γ t) 2) (node t v (fold-first ns)) (node t v (returneds Γ ns)))
-
-  pub returneds : List ℕ → Forest → Forest
-  returneds Γ nil = nil
-  returneds Γ (more s ss) = more (returned Γ s) (returneds Γ ss)
-
-module _ (Γ : List ℕ) where
-  -- of the first n trees
-  abbrev pub returned-firsts : ℕ → Forest → Forest
-  returned-firsts zero ss = ss
-  returned-firsts (suc n) nil = nil
-  returned-firsts (suc n) (more s ss) = more (returned Γ s) (returned-firsts n ss)
-
-  -- of the arguments, the locals 1 to n
-  abbrev pub returned-at : ℕ → Forest → Forest
-  returned-at n nil = nil
-  returned-at n (more s ss) = more s (returned-firsts n ss)
 
 module _ (Γ : List ℕ) (y : Sound Γ) where
   -- to fold the tree below a pointer

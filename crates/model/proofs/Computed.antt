@@ -12,6 +12,7 @@ use Rattle.model.specs.Place
 use Rattle.model.specs.Record
 use Rattle.model.specs.Replay
 use Rattle.model.specs.Rounds
+use Rattle.model.specs.Source
 use Rattle.model.specs.State
 use Rattle.model.specs.Tree
 use Rattle.model.specs.Types
@@ -29,12 +30,14 @@ unfolding
     Types.field-ok Types.fields-ok Types.pointee-ok Types.variant-ok Types.variants-ok Types.type-ok Types.all-types-ok
     Types.types-ok
     Tree.size Tree.leaves Tree.settle Tree.join Tree.meet Tree.flags
+    Source.filled Source.stayed Source.met Source.first Source.second Source.modified
     State.codes State.padded State.encode State.read-each State.opens State.read-node State.read-tree State.pairs State.shaped
     State.decode State.local-ok State.locals-ok
     Place.steps Place.spot-ok Place.used-ok Place.fold-ok Place.unfold-ok Place.same-elem Place.same-place Place.same-spot
     Walk.opened Walk.opening Walk.enter Walk.step Walk.walk Walk.wide Walk.reached Walk.changed Walk.project Walk.project-at
     Walk.carry Walk.carry-at Walk.fitting Walk.projection Walk.cast-at Walk.downcasting Walk.enum-at
     Collect.hop Collect.lift Collect.unfolds Collect.collect Collect.folds Collect.folds-at-ret
+    Collect.bare Collect.first-clash Collect.returned
     Function.local-types Function.start Function.rank Function.op Function.arg Function.stop Function.follow-table
     Function.may-follow Function.after Function.arg-ok Function.function-sizes Function.starts-ok Function.ranks-ok
     Function.items-from Function.items-ok Function.function-ok

@@ -6,10 +6,11 @@ use Prim.Native.Nat.{ℕ}
 use lib.Dec.{ltb}
 use Rattle.model.specs.Types.{types-ok}
 use Rattle.model.specs.Tree.{leaf, node, nil, more, joins}
+use Rattle.model.specs.Collect.{returned}
 use Rattle.model.specs.Measure.{measure}
 use Rattle.model.specs.Place.{deref, field, downcast, index}
 use Rattle.model.proofs.Build.{opaque, plain, mutable, box, array, struct, enum, variant, closure, types-of}
-use Rattle.model.proofs.Rows.{F, S, T, *, V0, Shape, open-at, none, also, join-of, use-in, from-to, at-return, gives, records, refuses, fold-1, unfold-1, yes, no, Row, row, computed-row, stated-row}
+use Rattle.model.proofs.Rows.{F, S, T, *, V0, Shape, open-at, none, also, join-of, use-in, from-to, at-return, gives, records, refuses, fold-1, unfold-1, yes, no, Row, row, computed-row, stated-row, computed-clash, stated-clash, tree}
 use Rattle.model.proofs.Computed.{computed}
 
 -- 0 opaque, 1 struct(0,0), 2 mutable reference to 1, 3 variant value 0 no field, 4 variant value 1 (1,2), 5 enum(3,4),
@@ -55,6 +56,20 @@ types-pass = refl
 further : map (computed-row types) rows ≡ map (stated-row types) rows
 unfolding computed computed-row stated-row
 further = refl
+
+-- collecting is refused with the first clash of the two trees
+further-clashes : map (computed-clash types) rows ≡ map stated-clash rows
+unfolding computed computed-clash stated-clash
+further-clashes = refl
+
+-- a return folds what is behind a mutable reference, in a variant's field too, and leaves what is behind a plain pointer
+return-leaves : returned types (tree types (V1 F (* (S F F))) 5) ≡ tree types (V1 F (* F)) 5
+unfolding computed tree
+return-leaves = refl
+
+plain-stays : returned types (tree types (* (* F)) 7) ≡ tree types (* (* F)) 7
+unfolding computed tree
+plain-stays = refl
 
 -- a struct with no field that is opened has no more nodes than before; yet the measure falls
 unit-falls : ltb (measure types (joins types false (more (leaf 6) nil) (more (node 6 0 nil) nil))) (measure types (more (leaf 6) nil)) ≡ true

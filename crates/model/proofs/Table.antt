@@ -5,7 +5,7 @@ use mathlib.Core.List.{List, [], _∷_, map}
 use Prim.Native.Nat.{ℕ}
 use Rattle.model.specs.Types.{types-ok}
 use Rattle.model.specs.Place.{deref, field, downcast}
-use Rattle.model.proofs.Rows.{F, S, T, *, V0, V1, Shape, Input, join-of, use-in, from-to, at-return, Result, gives, refuses, fold-1, unfold-1, yes, no, Row, row, computed-row, stated-row}
+use Rattle.model.proofs.Rows.{F, S, T, *, V0, V1, Shape, Input, join-of, use-in, from-to, at-return, Stated, gives, refuses, fold-1, unfold-1, yes, no, Row, row, computed-row, stated-row, computed-clash, stated-clash}
 use Rattle.model.proofs.Computed.{computed}
 
 -- 0 opaque, 1 struct(0,0), 2 mutable reference to 1, 3 variant value 0 no field, 4 variant value 1 (0), 5 enum(3,4), 6 plain
@@ -18,7 +18,7 @@ abbrev Γ : List ℕ
     ∷ 0 ∷ 0 ∷ 1 ∷ 0 ∷ 1 ∷ 0 ∷ 3 ∷ 4 ∷ 1 ∷ 1 ∷ 7 ∷ []
 
 -- the row's number is a label
-abbrev W : ℕ → ℕ → Input → Result Shape → Row
+abbrev W : ℕ → ℕ → Input → Stated → Row
 W n = row
 
 -- W12 has two inputs
@@ -50,3 +50,8 @@ types-pass = refl
 marked : map (computed-row Γ) table ≡ map (stated-row Γ) table
 unfolding computed computed-row stated-row
 marked = refl
+
+-- and collecting is refused with the first clash of the two trees
+marked-clashes : map (computed-clash Γ) table ≡ map stated-clash table
+unfolding computed computed-clash stated-clash
+marked-clashes = refl

@@ -1,6 +1,7 @@
 -- An answer: the number of a refusal of document 01's table, or a value.
 use mathlib.Core.Bool.{Bool, true, false}
 use mathlib.Core.List.{List, [], _∷_}
+use mathlib.Core.Option.{Option, none, some}
 use Prim.Native.Nat.{ℕ}
 
 pub data Answer (A : Type 0) : Type 0 where
@@ -22,3 +23,8 @@ require false r f = refused r
 abbrev pub run : {A S : Type 0} → (A → S → Answer S) → List A → S → Answer S
 run f [] s = done s
 run f (a ∷ as′) s = f a s >>= run f as′
+
+-- of two refusals, as far as there are any, the first
+abbrev pub earlier : Option ℕ → Option ℕ → Option ℕ
+earlier none b = b
+earlier (some n) b = some n

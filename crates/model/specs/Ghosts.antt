@@ -123,8 +123,11 @@ lines-text entry [] = []
 lines-text entry (l ∷ ls) = line-text entry l ++ lines-text entry ls
 
 -- `refused ` and the number
+abbrev pub refusal-text : ℕ → List ℕ
+refusal-text r = 114 ∷ 101 ∷ 102 ∷ 117 ∷ 115 ∷ 101 ∷ 100 ∷ 32 ∷ (number r ++ (10 ∷ []))
+
 unfoldable pub answer-text : ℕ → Answer (Found Forest At) → List ℕ
-answer-text entry (refused r) = 114 ∷ 101 ∷ 102 ∷ 117 ∷ 115 ∷ 101 ∷ 100 ∷ 32 ∷ (number r ++ (10 ∷ []))
+answer-text entry (refused r) = refusal-text r
 answer-text entry (done f) = lines-text entry (f .lines)
 
 -- what the program prints of these words

@@ -35,3 +35,5 @@ pub mod Calls
 pub mod Replay
 -- the program
 pub mod Ghosts
+-- what the calls promise beside these equations
+pub mod Promised

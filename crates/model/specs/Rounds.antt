@@ -24,7 +24,7 @@ module _ {S : Type 0} (round : S → Round S) where
   loop (suc n) s = elim (round s) [ idle ↦ done s | broke r ↦ refused r | turned t ↦ loop n t ]
 
   -- with fuel by a number that falls at each round, one more than it can use. That the fuel 0 is never met, and that one round
-  -- unfolds, are theorems (laws, Loop): no count of rounds is part of the answer
+  -- unfolds, are theorems (solver, Loop): no count of rounds is part of the answer
   unfoldable pub run-rounds : (S → ℕ) → S → Answer S
   unfolding loop
   run-rounds load s = loop (suc (load s)) s

@@ -67,7 +67,7 @@ module _ (Γ : List ℕ) where
     joins m (more s ss) nil = nil
     joins m (more s ss) (more e es) = more (join m s e) (joins m ss es)
 
--- THE SOURCE'S FLAGS: has the join changed the first tree, the second? By the source's own recursion
+-- THE FLAGS: has the join changed the first tree, the second? (By the source's own recursion: Source)
 
 abbrev pub Flags : Type 0
 Flags = Bool × Bool

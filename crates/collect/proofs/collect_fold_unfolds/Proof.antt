@@ -6,6 +6,7 @@ use Rattle.records.specs.Here.{Holds}
 use Rattle.state.specs.Value.{value}
 use Rattle.statements.proofs.Puts.{counted-start}
 use Rattle.input.proofs.Tested.{given-read}
+use Rattle.collect.proofs.Promised.{collect-promised}
 use Rattle.collect.proofs.Called.{writes-refused, writes-same, collect-untyped, collect-first, collect-second, collect-goes, collects-from, ended-ready}
 use Rattle.collect.proofs.collect_fold_unfolds.Statement.{statement}
 use Rattle.collect.proofs.collect_fold_unfolds.Tie as tie
@@ -23,7 +24,7 @@ same-length : tie.Need-same-length
 same-length c = search needs
 
 returns : tie.Need-returns
-returns c = writes-refused (collect-untyped (c .before .before .before .before .before .before .check-locals .ensures) _ _ _ (c .before .before .before .before .if1 .taken)) (c .before .before .refused .ensures)
+returns c = collect-promised _ _ _ _ _ (writes-refused (collect-untyped (c .before .before .before .before .before .before .check-locals .ensures) _ _ _ (c .before .before .before .before .if1 .taken)) (c .before .before .refused .ensures))
 
 slice-aggregate-check-given : tie.Need-slice-aggregate-check-given
 slice-aggregate-check-given c = search needs
@@ -40,7 +41,7 @@ same-length-2 : tie.Need-same-length-2
 same-length-2 c = search needs
 
 returns-2 : tie.Need-returns-2
-returns-2 c = writes-refused (collect-first (c .before .before .before .before .before .before .before .before .before .check-locals .ensures) _ (c .before .before .before .before .before .before .before .if1 .left) _ _ (c .before .before .before .before .before .check-given .ensures) (c .before .before .before .before .if2 .taken)) (c .before .before .refused2 .ensures)
+returns-2 c = collect-promised _ _ _ _ _ (writes-refused (collect-first (c .before .before .before .before .before .before .before .before .before .check-locals .ensures) _ (c .before .before .before .before .before .before .before .if1 .left) _ _ (c .before .before .before .before .before .check-given .ensures) (c .before .before .before .before .if2 .taken)) (c .before .before .refused2 .ensures))
 
 slice-aggregate-check-given-2 : tie.Need-slice-aggregate-check-given-2
 slice-aggregate-check-given-2 c = search needs
@@ -61,7 +62,7 @@ returns-3 c =
     let a = c .before .before .before .before .before .before .before .before .before .before .before .before .before .before .before .before .before .args in
     let K = c .before .before .before .before .before .before .before .before .before .before .before .before .check-locals .ensures in
     let S = given-read (a .types .now) (a .locals .now) (value (a .s)) (c .before .before .before .before .before .before .before .before .check-given .ensures) (c .before .before .before .before .before .before .before .if2 .left) in
-    writes-refused (collect-second K _ (c .before .before .before .before .before .before .before .before .before .before .if1 .left) _ (S .1) _ (c .before .before .before .before .before .check-given2 .ensures) (c .before .before .before .before .if3 .taken)) (c .before .before .refused3 .ensures)
+    collect-promised _ _ _ _ _ (writes-refused (collect-second K _ (c .before .before .before .before .before .before .before .before .before .before .if1 .left) _ (S .1) _ (c .before .before .before .before .before .check-given2 .ensures) (c .before .before .before .before .if3 .taken)) (c .before .before .refused3 .ensures))
 
 slice-aggregate-collect-fold-unfolds : tie.Need-slice-aggregate-collect-fold-unfolds
 slice-aggregate-collect-fold-unfolds c = search needs
@@ -99,7 +100,7 @@ returns-4 c =
     let K = c .before .before .before .before .before .before .before .before .before .before .before .before .before .before .before .before .before .before .before .check-locals .ensures in
     let S = given-read (a .types .now) (a .locals .now) (value (a .s)) (c .before .before .before .before .before .before .before .before .before .before .before .before .before .before .before .check-given .ensures) (c .before .before .before .before .before .before .before .before .before .before .before .before .before .before .if2 .left) in
     let E = given-read (a .types .now) (a .locals .now) (value (a .e)) (c .before .before .before .before .before .before .before .before .before .before .before .before .check-given2 .ensures) (c .before .before .before .before .before .before .before .before .before .before .before .if3 .left) in
-    writes-same (collects (a .types .now) (S .0) (E .0)) (c .before .before .before .before .before .before .collect-fold-unfolds .kept .1 .1 .1 .1 .1 .0) (collect-goes K _ (c .before .before .before .before .before .before .before .before .before .before .before .before .before .before .before .before .before .if1 .left) _ (S .1) _ (E .1)) (c .before .before .ended .ensures _ _ (collects-from (c .before .before .before .before .before .before .before .before .entry .ensures) (c .before .before .before .before .before .before .before .nothing .ensures) (c .before .before .before .before .before .before .collect-fold-unfolds .ensures (S .0) (E .0) (S .2) (E .2))))
+    collect-promised _ _ _ _ _ (writes-same (collects (a .types .now) (S .0) (E .0)) (c .before .before .before .before .before .before .collect-fold-unfolds .kept .1 .1 .1 .1 .1 .0) (collect-goes K _ (c .before .before .before .before .before .before .before .before .before .before .before .before .before .before .before .before .before .if1 .left) _ (S .1) _ (E .1)) (c .before .before .ended .ensures _ _ (collects-from (c .before .before .before .before .before .before .before .before .entry .ensures) (c .before .before .before .before .before .before .before .nothing .ensures) (c .before .before .before .before .before .before .collect-fold-unfolds .ensures (S .0) (E .0) (S .2) (E .2)))))
 
 pub collect-fold-unfolds-spec : {M : Type 1} → statement M
 collect-fold-unfolds-spec =

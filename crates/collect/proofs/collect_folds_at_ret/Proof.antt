@@ -7,6 +7,7 @@ use Rattle.records.specs.Here.{Holds}
 use Rattle.state.specs.Value.{value}
 use Rattle.statements.proofs.Puts.{counted-start}
 use Rattle.input.proofs.Tested.{given-read}
+use Rattle.collect.proofs.Promised.{folds-promised}
 use Rattle.collect.proofs.Called.{writes-refused, writes-same, folds-untyped, folds-args, folds-state, folds-goes, puts-from, ended-puts}
 use Rattle.collect.proofs.collect_folds_at_ret.Statement.{statement}
 use Rattle.collect.proofs.collect_folds_at_ret.Tie as tie
@@ -24,7 +25,7 @@ same-length : tie.Need-same-length
 same-length c = search needs
 
 returns : tie.Need-returns
-returns c = writes-refused (folds-untyped (c .before .before .before .before .before .before .check-locals .ensures) _ _ _ (c .before .before .before .before .if1 .taken)) (c .before .before .refused .ensures)
+returns c = folds-promised _ _ _ _ _ (writes-refused (folds-untyped (c .before .before .before .before .before .before .check-locals .ensures) _ _ _ (c .before .before .before .before .if1 .taken)) (c .before .before .refused .ensures))
 
 refused-requires-2 : tie.Need-refused-requires-2
 refused-requires-2 c κs = search needs
@@ -33,7 +34,7 @@ same-length-2 : tie.Need-same-length-2
 same-length-2 c = search needs
 
 returns-2 : tie.Need-returns-2
-returns-2 c = writes-refused (folds-args (c .before .before .before .before .before .before .before .check-locals .ensures) _ (c .before .before .before .before .before .if1 .left) _ _ (c .before .before .before .before .if2 .taken)) (c .before .before .refused2 .ensures)
+returns-2 c = folds-promised _ _ _ _ _ (writes-refused (folds-args (c .before .before .before .before .before .before .before .check-locals .ensures) _ (c .before .before .before .before .before .if1 .left) _ _ (c .before .before .before .before .if2 .taken)) (c .before .before .refused2 .ensures))
 
 slice-aggregate-check-given : tie.Need-slice-aggregate-check-given
 slice-aggregate-check-given c = search needs
@@ -50,7 +51,7 @@ same-length-3 : tie.Need-same-length-3
 same-length-3 c = search needs
 
 returns-3 : tie.Need-returns-3
-returns-3 c = writes-refused (folds-state (c .before .before .before .before .before .before .before .before .before .before .check-locals .ensures) _ (c .before .before .before .before .before .before .before .before .if1 .left) _ _ (c .before .before .before .before .before .before .before .if2 .left) (c .before .before .before .before .before .check-given .ensures) (c .before .before .before .before .if3 .taken)) (c .before .before .refused3 .ensures)
+returns-3 c = folds-promised _ _ _ _ _ (writes-refused (folds-state (c .before .before .before .before .before .before .before .before .before .before .check-locals .ensures) _ (c .before .before .before .before .before .before .before .before .if1 .left) _ _ (c .before .before .before .before .before .before .before .if2 .left) (c .before .before .before .before .before .check-given .ensures) (c .before .before .before .before .if3 .taken)) (c .before .before .refused3 .ensures))
 
 slice-aggregate-collect-folds-at-ret : tie.Need-slice-aggregate-collect-folds-at-ret
 slice-aggregate-collect-folds-at-ret c = search needs
@@ -85,7 +86,7 @@ returns-4 c =
     let K = c .before .before .before .before .before .before .before .before .before .before .before .before .before .before .before .before .before .check-locals .ensures in
     let S = given-read (a .types .now) (a .locals .now) (value (a .s)) (c .before .before .before .before .before .before .before .before .before .before .before .before .check-given .ensures) (c .before .before .before .before .before .before .before .before .before .before .before .if3 .left) in
     let b = folds-at-ret (a .types .now) (a .a) (S .0) in
-    writes-same (done b) (c .before .before .before .before .before .before .collect-folds-at-ret .kept .1 .1 .1 .1 .1 .0) (folds-goes K _ (c .before .before .before .before .before .before .before .before .before .before .before .before .before .before .before .if1 .left) _ (S .1) (a .a) (c .before .before .before .before .before .before .before .before .before .before .before .before .before .before .if2 .left)) (ended-puts b (puts-from (c .before .before .before .before .before .before .before .before .entry .ensures) (c .before .before .before .before .before .before .before .nothing .ensures) b (c .before .before .before .before .before .before .collect-folds-at-ret .ensures (S .0) (S .2))) (c .before .before .finished .ensures))
+    folds-promised _ _ _ _ _ (writes-same (done b) (c .before .before .before .before .before .before .collect-folds-at-ret .kept .1 .1 .1 .1 .1 .0) (folds-goes K _ (c .before .before .before .before .before .before .before .before .before .before .before .before .before .before .before .if1 .left) _ (S .1) (a .a) (c .before .before .before .before .before .before .before .before .before .before .before .before .before .before .if2 .left)) (ended-puts b (puts-from (c .before .before .before .before .before .before .before .before .entry .ensures) (c .before .before .before .before .before .before .before .nothing .ensures) b (c .before .before .before .before .before .before .collect-folds-at-ret .ensures (S .0) (S .2))) (c .before .before .finished .ensures)))
 
 pub collect-folds-at-ret-spec : {M : Type 1} → statement M
 collect-folds-at-ret-spec =

@@ -6,6 +6,7 @@ use Rattle.records.specs.Here.{Holds}
 use Rattle.state.specs.Value.{value}
 use Rattle.statements.proofs.Puts.{counted-start}
 use Rattle.input.proofs.Tested.{given-read}
+use Rattle.collect.proofs.Promised.{unfolds-promised}
 use Rattle.collect.proofs.Called.{writes-refused, writes-same, unfolds-untyped, unfolds-state, unfolds-goes, collects-from, ended-ready}
 use Rattle.collect.proofs.collect_unfolds.Statement.{statement}
 use Rattle.collect.proofs.collect_unfolds.Tie as tie
@@ -23,7 +24,7 @@ same-length : tie.Need-same-length
 same-length c = search needs
 
 returns : tie.Need-returns
-returns c = writes-refused (unfolds-untyped (c .before .before .before .before .before .before .check-locals .ensures) _ _ (c .before .before .before .before .if1 .taken)) (c .before .before .refused .ensures)
+returns c = unfolds-promised _ _ _ _ (writes-refused (unfolds-untyped (c .before .before .before .before .before .before .check-locals .ensures) _ _ (c .before .before .before .before .if1 .taken)) (c .before .before .refused .ensures))
 
 slice-aggregate-check-given : tie.Need-slice-aggregate-check-given
 slice-aggregate-check-given c = search needs
@@ -40,7 +41,7 @@ same-length-2 : tie.Need-same-length-2
 same-length-2 c = search needs
 
 returns-2 : tie.Need-returns-2
-returns-2 c = writes-refused (unfolds-state (c .before .before .before .before .before .before .before .before .before .check-locals .ensures) _ (c .before .before .before .before .before .before .before .if1 .left) _ (c .before .before .before .before .before .check-given .ensures) (c .before .before .before .before .if2 .taken)) (c .before .before .refused2 .ensures)
+returns-2 c = unfolds-promised _ _ _ _ (writes-refused (unfolds-state (c .before .before .before .before .before .before .before .before .before .check-locals .ensures) _ (c .before .before .before .before .before .before .before .if1 .left) _ (c .before .before .before .before .before .check-given .ensures) (c .before .before .before .before .if2 .taken)) (c .before .before .refused2 .ensures))
 
 slice-aggregate-collect-unfolds : tie.Need-slice-aggregate-collect-unfolds
 slice-aggregate-collect-unfolds c = search needs
@@ -74,7 +75,7 @@ returns-3 c =
     let a = c .before .before .before .before .before .before .before .before .before .before .before .before .before .before .before .before .before .before .before .before .before .args in
     let K = c .before .before .before .before .before .before .before .before .before .before .before .before .before .before .before .before .check-locals .ensures in
     let S = given-read (a .types .now) (a .locals .now) (value (a .s)) (c .before .before .before .before .before .before .before .before .before .before .before .before .check-given .ensures) (c .before .before .before .before .before .before .before .before .before .before .before .if2 .left) in
-    writes-same (unfoldss (a .types .now) (S .0)) (c .before .before .before .before .before .before .collect-unfolds .kept .1 .1 .1 .1 .0) (unfolds-goes K _ (c .before .before .before .before .before .before .before .before .before .before .before .before .before .before .if1 .left) _ (S .1)) (c .before .before .ended .ensures _ _ (collects-from (c .before .before .before .before .before .before .before .before .entry .ensures) (c .before .before .before .before .before .before .before .nothing .ensures) (c .before .before .before .before .before .before .collect-unfolds .ensures (S .0) (S .2))))
+    unfolds-promised _ _ _ _ (writes-same (unfoldss (a .types .now) (S .0)) (c .before .before .before .before .before .before .collect-unfolds .kept .1 .1 .1 .1 .0) (unfolds-goes K _ (c .before .before .before .before .before .before .before .before .before .before .before .before .before .before .if1 .left) _ (S .1)) (c .before .before .ended .ensures _ _ (collects-from (c .before .before .before .before .before .before .before .before .entry .ensures) (c .before .before .before .before .before .before .before .nothing .ensures) (c .before .before .before .before .before .before .collect-unfolds .ensures (S .0) (S .2)))))
 
 pub collect-unfolds-spec : {M : Type 1} → statement M
 collect-unfolds-spec =

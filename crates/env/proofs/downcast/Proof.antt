@@ -6,7 +6,9 @@ use lib.ListN.{length}
 use Rattle.model.specs.Place.{used-ok}
 use Rattle.model.specs.Walk.{downcasting}
 use Rattle.model.specs.Calls.{call-downcast}
-use Rattle.env.proofs.Called.{tested-locals, tested-spotted, tested-given, gives-stops, gives-barred, gives-goes}
+use Rattle.state.specs.Value.{value}
+use Rattle.calls.specs.Numbers.{downcast-refuses}
+use Rattle.env.proofs.Called.{gives-promised, tested-locals, tested-spotted, tested-given, gives-stops, gives-barred, gives-goes}
 use Rattle.env.proofs.downcast.Statement.{statement}
 use Rattle.env.proofs.downcast.Tie as tie
 
@@ -18,14 +20,14 @@ check-use-requires c κs = search needs
 
 returns : tie.Need-returns
 unfolding call-downcast
-returns c = let s = c .before .before .before .before .before .before .before .before .args in gives-stops (c .before .before .check-use .ensures) (used-ok (length (s .locals .now))) (λ E q. downcasting (s .types .now) q (s .variant) E) (c .if1 .taken)
+returns c = let s = c .before .before .before .before .before .before .before .before .args in gives-promised (downcast-refuses (s .types .now) (s .locals .now) (value (s .s)) (s .ops .now) (s .args .now) (s .variant)) (gives-stops (c .before .before .check-use .ensures) (used-ok (length (s .locals .now))) (λ E q. downcasting (s .types .now) q (s .variant) E) (c .if1 .taken))
 
 used-ok-requires : tie.Need-used-ok-requires
 used-ok-requires c κs = tested-spotted (c .before .before .check-use .ensures) (c .if1 .left)
 
 returns-2 : tie.Need-returns-2
 unfolding call-downcast
-returns-2 c = let s = c .before .before .before .before .before .before .before .before .before .before .args in gives-barred (c .before .before .before .before .check-use .ensures) (used-ok (length (s .locals .now))) (λ E q. downcasting (s .types .now) q (s .variant) E) (c .before .before .if1 .left) (λ q e. sym (c .before .used-ok .ensures q e) ∙ not-true (c .before .used-ok .result) (c .if2 .taken))
+returns-2 c = let s = c .before .before .before .before .before .before .before .before .before .before .args in gives-promised (downcast-refuses (s .types .now) (s .locals .now) (value (s .s)) (s .ops .now) (s .args .now) (s .variant)) (gives-barred (c .before .before .before .before .check-use .ensures) (used-ok (length (s .locals .now))) (λ E q. downcasting (s .types .now) q (s .variant) E) (c .before .before .if1 .left) (λ q e. sym (c .before .used-ok .ensures q e) ∙ not-true (c .before .used-ok .result) (c .if2 .taken)))
 
 slice-aggregate-downcast : tie.Need-slice-aggregate-downcast
 slice-aggregate-downcast c = search needs
@@ -44,7 +46,7 @@ downcast-requires c κs =
 
 returns-3 : tie.Need-returns-3
 unfolding call-downcast
-returns-3 c = let s = c .before .before .before .before .before .before .before .before .before .before .before .before .before .before .before .before .before .before .args in gives-goes (c .before .before .before .before .before .before .before .before .before .before .before .before .check-use .ensures) (used-ok (length (s .locals .now))) (λ E q. downcasting (s .types .now) q (s .variant) E) (c .before .before .before .before .before .before .before .before .before .before .if1 .left) (λ q e. sym (c .before .before .before .before .before .before .before .before .before .used-ok .ensures q e) ∙ not-false (c .before .before .before .before .before .before .before .before .before .used-ok .result) (c .before .before .before .before .before .before .before .before .if2 .left)) (c .before .before .downcast .ensures)
+returns-3 c = let s = c .before .before .before .before .before .before .before .before .before .before .before .before .before .before .before .before .before .before .args in gives-promised (downcast-refuses (s .types .now) (s .locals .now) (value (s .s)) (s .ops .now) (s .args .now) (s .variant)) (gives-goes (c .before .before .before .before .before .before .before .before .before .before .before .before .check-use .ensures) (used-ok (length (s .locals .now))) (λ E q. downcasting (s .types .now) q (s .variant) E) (c .before .before .before .before .before .before .before .before .before .before .if1 .left) (λ q e. sym (c .before .before .before .before .before .before .before .before .before .used-ok .ensures q e) ∙ not-false (c .before .before .before .before .before .before .before .before .before .used-ok .result) (c .before .before .before .before .before .before .before .before .if2 .left)) (c .before .before .downcast .ensures))
 
 pub downcast-spec : {M : Type 1} → statement M
 downcast-spec =

@@ -6,7 +6,9 @@ use lib.ListN.{length}
 use Rattle.model.specs.Place.{Fold, fold-ok}
 use Rattle.model.specs.Calls.{call-carry, statement-ok}
 use Rattle.env.specs.Answers.{carrying}
-use Rattle.env.proofs.Called.{tested-locals, tested-spotted, tested-given, gives-stops, gives-barred, gives-goes}
+use Rattle.state.specs.Value.{value}
+use Rattle.calls.specs.Numbers.{fold-refuses}
+use Rattle.env.proofs.Called.{gives-promised, tested-locals, tested-spotted, tested-given, gives-stops, gives-barred, gives-goes}
 use Rattle.env.proofs.fold.Statement.{statement}
 use Rattle.env.proofs.fold.Tie as tie
 
@@ -18,14 +20,14 @@ check-use-requires c κs = search needs
 
 returns : tie.Need-returns
 unfolding call-carry statement-ok carrying
-returns c = let s = c .before .before .before .before .before .before .before .before .args in gives-stops (c .before .before .check-use .ensures) (fold-ok (length (s .locals .now))) (λ E q. carrying (s .types .now) (s .locals .now) Fold q E) (c .if1 .taken)
+returns c = let s = c .before .before .before .before .before .before .before .before .args in gives-promised (fold-refuses (s .types .now) (s .locals .now) (value (s .s)) (s .ops .now) (s .args .now)) (gives-stops (c .before .before .check-use .ensures) (fold-ok (length (s .locals .now))) (λ E q. carrying (s .types .now) (s .locals .now) Fold q E) (c .if1 .taken))
 
 fold-ok-requires : tie.Need-fold-ok-requires
 fold-ok-requires c κs = tested-spotted (c .before .before .check-use .ensures) (c .if1 .left)
 
 returns-2 : tie.Need-returns-2
 unfolding call-carry statement-ok carrying
-returns-2 c = let s = c .before .before .before .before .before .before .before .before .before .before .args in gives-barred (c .before .before .before .before .check-use .ensures) (fold-ok (length (s .locals .now))) (λ E q. carrying (s .types .now) (s .locals .now) Fold q E) (c .before .before .if1 .left) (λ q e. sym (c .before .fold-ok .ensures q e) ∙ not-true (c .before .fold-ok .result) (c .if2 .taken))
+returns-2 c = let s = c .before .before .before .before .before .before .before .before .before .before .args in gives-promised (fold-refuses (s .types .now) (s .locals .now) (value (s .s)) (s .ops .now) (s .args .now)) (gives-barred (c .before .before .before .before .check-use .ensures) (fold-ok (length (s .locals .now))) (λ E q. carrying (s .types .now) (s .locals .now) Fold q E) (c .before .before .if1 .left) (λ q e. sym (c .before .fold-ok .ensures q e) ∙ not-true (c .before .fold-ok .result) (c .if2 .taken)))
 
 slice-aggregate-fold : tie.Need-slice-aggregate-fold
 slice-aggregate-fold c = search needs
@@ -47,8 +49,8 @@ returns-3 : tie.Need-returns-3
 unfolding call-carry statement-ok carrying
 returns-3 c =
     let s = c .before .before .before .before .before .before .before .before .before .before .before .before .before .before .before .before .before .before .args in
-    gives-goes (c .before .before .before .before .before .before .before .before .before .before .before .before .check-use .ensures) (fold-ok (length (s .locals .now))) (λ E q. carrying (s .types .now) (s .locals .now) Fold q E) (c .before .before .before .before .before .before .before .before .before .before .if1 .left)
-    (λ q e. sym (c .before .before .before .before .before .before .before .before .before .fold-ok .ensures q e) ∙ not-false (c .before .before .before .before .before .before .before .before .before .fold-ok .result) (c .before .before .before .before .before .before .before .before .if2 .left)) (c .before .before .fold .ensures)
+    gives-promised (fold-refuses (s .types .now) (s .locals .now) (value (s .s)) (s .ops .now) (s .args .now)) (gives-goes (c .before .before .before .before .before .before .before .before .before .before .before .before .check-use .ensures) (fold-ok (length (s .locals .now))) (λ E q. carrying (s .types .now) (s .locals .now) Fold q E) (c .before .before .before .before .before .before .before .before .before .before .if1 .left)
+    (λ q e. sym (c .before .before .before .before .before .before .before .before .before .fold-ok .ensures q e) ∙ not-false (c .before .before .before .before .before .before .before .before .before .fold-ok .result) (c .before .before .before .before .before .before .before .before .if2 .left)) (c .before .before .fold .ensures))
 
 pub fold-spec : {M : Type 1} → statement M
 fold-spec =

@@ -4,7 +4,7 @@ use borrow.Author.Tests.{not-true, not-false}
 use mathlib.Core.Path.{sym, _∙_}
 use lib.ListN.{length}
 use Rattle.model.specs.Place.{used-ok}
-use Rattle.env.proofs.Called.{tested-locals, tested-spotted, tested-given, projection-stops, projection-barred, projection-goes}
+use Rattle.env.proofs.Called.{projection-promised, tested-locals, tested-spotted, tested-given, projection-stops, projection-barred, projection-goes}
 use Rattle.env.proofs.projection.Statement.{statement}
 use Rattle.env.proofs.projection.Tie as tie
 
@@ -15,13 +15,13 @@ check-use-requires : tie.Need-check-use-requires
 check-use-requires c κs = search needs
 
 returns : tie.Need-returns
-returns c = projection-stops (c .before .before .check-use .ensures) (c .if1 .taken)
+returns c = projection-promised _ _ _ _ _ (projection-stops (c .before .before .check-use .ensures) (c .if1 .taken))
 
 used-ok-requires : tie.Need-used-ok-requires
 used-ok-requires c κs = tested-spotted (c .before .before .check-use .ensures) (c .if1 .left)
 
 returns-2 : tie.Need-returns-2
-returns-2 c = projection-barred (c .before .before .before .before .check-use .ensures) (c .before .before .if1 .left) (λ q e. sym (c .before .used-ok .ensures q e) ∙ not-true (c .before .used-ok .result) (c .if2 .taken))
+returns-2 c = projection-promised _ _ _ _ _ (projection-barred (c .before .before .before .before .check-use .ensures) (c .before .before .if1 .left) (λ q e. sym (c .before .used-ok .ensures q e) ∙ not-true (c .before .used-ok .result) (c .if2 .taken)))
 
 slice-aggregate-projection : tie.Need-slice-aggregate-projection
 slice-aggregate-projection c = search needs
@@ -41,8 +41,8 @@ projection-requires c κs =
 
 returns-3 : tie.Need-returns-3
 returns-3 c =
-    projection-goes (c .before .before .before .before .before .before .before .before .before .before .before .before .check-use .ensures) (c .before .before .before .before .before .before .before .before .before .before .if1 .left)
-    (λ q e. sym (c .before .before .before .before .before .before .before .before .before .used-ok .ensures q e) ∙ not-false (c .before .before .before .before .before .before .before .before .before .used-ok .result) (c .before .before .before .before .before .before .before .before .if2 .left)) (c .before .before .projection .ensures)
+    projection-promised _ _ _ _ _ (projection-goes (c .before .before .before .before .before .before .before .before .before .before .before .before .check-use .ensures) (c .before .before .before .before .before .before .before .before .before .before .if1 .left)
+    (λ q e. sym (c .before .before .before .before .before .before .before .before .before .used-ok .ensures q e) ∙ not-false (c .before .before .before .before .before .before .before .before .before .used-ok .result) (c .before .before .before .before .before .before .before .before .if2 .left)) (c .before .before .projection .ensures))
 
 pub projection-spec : {M : Type 1} → statement M
 projection-spec =

@@ -23,7 +23,9 @@ same-length-3 : tie.Need-same-length-3
 same-length-3 c = search needs
 
 returns : tie.Need-returns
-returns c = refused-exports (c .before .before .before .before .before .before .before .before .before .ghost-statements .ensures .0) (c .before .g .given .1)
+returns c =
+    let g = c .before .before .before .before .before .before .before .before .before .ghost-statements .ensures in
+    refused-exports (g .0) (c .before .g .given .1) (g .1 .1)
 
 same-length-4 : tie.Need-same-length-4
 same-length-4 c = search needs
@@ -37,7 +39,7 @@ same-length-6 c = search needs
 returns-2 : tie.Need-returns-2
 returns-2 c =
     let g = c .before .before .before .before .before .before .before .before .ghost-statements .ensures in
-    done-exports (g .0) (c .enum-told .given .1) (g .1)
+    done-exports (g .0) (c .enum-told .given .1) (g .1 .0)
 
 pub exports-ghost-statements-spec : {M : Type 1} → statement M
 exports-ghost-statements-spec =

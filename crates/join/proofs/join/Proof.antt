@@ -6,7 +6,7 @@ use Rattle.model.specs.Tree.{Forest}
 use Rattle.records.specs.Here.{Holds}
 use Rattle.state.specs.Value.{value}
 use Rattle.input.proofs.Tested.{given-read}
-use Rattle.join.proofs.Called.{joins-refused, joins-done, call-untyped, call-first, call-second, call-full, call-to, joined-value}
+use Rattle.join.proofs.Called.{promised, joins-refused, joins-done, call-untyped, call-first, call-second, call-full, call-to, joined-value}
 use Rattle.join.proofs.join.Statement.{statement}
 use Rattle.join.proofs.join.Tie as tie
 
@@ -21,7 +21,7 @@ refused-requires c κs = search needs
 
 returns : tie.Need-returns
 returns c =
-    joins-refused (call-untyped _ _ (c .before .before .before .check-locals .ensures) (c .before .if1 .taken)) (c .refused .ensures)
+    promised _ _ _ _ (joins-refused (call-untyped _ _ (c .before .before .before .check-locals .ensures) (c .before .if1 .taken)) (c .refused .ensures))
 
 slice-aggregate-check-given : tie.Need-slice-aggregate-check-given
 slice-aggregate-check-given c = search needs
@@ -36,7 +36,7 @@ refused-requires-2 c κs = search needs
 
 returns-2 : tie.Need-returns-2
 returns-2 c =
-    joins-refused (call-first _ _ (c .before .before .before .before .before .before .check-locals .ensures) (c .before .before .before .before .if1 .left) (c .before .before .check-given .ensures) (c .before .if2 .taken)) (c .refused2 .ensures)
+    promised _ _ _ _ (joins-refused (call-first _ _ (c .before .before .before .before .before .before .check-locals .ensures) (c .before .before .before .before .if1 .left) (c .before .before .check-given .ensures) (c .before .if2 .taken)) (c .refused2 .ensures))
 
 slice-aggregate-check-given-2 : tie.Need-slice-aggregate-check-given-2
 slice-aggregate-check-given-2 c = search needs
@@ -54,7 +54,7 @@ returns-3 c =
     let a = c .before .before .before .before .before .before .before .before .before .before .before .before .before .args in
     let K = c .before .before .before .before .before .before .before .before .before .check-locals .ensures in
     let S = given-read (a .types .now) (a .locals .now) (value (a .s)) (c .before .before .before .before .before .check-given .ensures) (c .before .before .before .before .if2 .left) in
-    joins-refused (call-second _ _ K (c .before .before .before .before .before .before .before .if1 .left) (S .1) (c .before .before .check-given2 .ensures) (c .before .if3 .taken)) (c .refused3 .ensures)
+    promised _ _ _ _ (joins-refused (call-second _ _ K (c .before .before .before .before .before .before .before .if1 .left) (S .1) (c .before .before .check-given2 .ensures) (c .before .if3 .taken)) (c .refused3 .ensures))
 
 slice-aggregate-join-into : tie.Need-slice-aggregate-join-into
 slice-aggregate-join-into c = search needs
@@ -91,7 +91,7 @@ returns-4 c =
     let S = given-read (a .types .now) (a .locals .now) (value (a .s)) (c .before .before .before .before .before .before .before .before .before .before .before .before .before .check-given .ensures) (c .before .before .before .before .before .before .before .before .before .before .before .before .if2 .left) in
     let E = given-read (a .types .now) (a .locals .now) (value (a .e)) (c .before .before .before .before .before .before .before .before .before .before .check-given2 .ensures) (c .before .before .before .before .before .before .before .before .before .if3 .left) in
     let J = c .before .before .before .before .before .join-into .ensures (S .0) (E .0) (S .2) (E .2) in
-    joins-refused (call-full _ _ K (c .before .before .before .before .before .before .before .before .before .before .before .before .before .before .before .if1 .left) (S .1) (E .1) (sym (c .before .enum-told .given .1) ∙ J .answer)) (c .refused4 .ensures)
+    promised _ _ _ _ (joins-refused (call-full _ _ K (c .before .before .before .before .before .before .before .before .before .before .before .before .before .before .before .if1 .left) (S .1) (E .1) (sym (c .before .enum-told .given .1) ∙ J .answer)) (c .refused4 .ensures))
 
 returns-5 : tie.Need-returns-5
 returns-5 c =
@@ -101,7 +101,7 @@ returns-5 c =
     let E = given-read (a .types .now) (a .locals .now) (value (a .e)) (c .before .before .before .before .before .before .before .before .before .before .check-given2 .ensures) (c .before .before .before .before .before .before .before .before .before .if3 .left) in
     let J = c .before .before .before .before .before .join-into .ensures (S .0) (E .0) (S .2) (E .2) in
     let T = call-to _ _ K (c .before .before .before .before .before .before .before .before .before .before .before .before .before .before .before .if1 .left) (S .1) (E .1) (sym (c .before .j .given .1) ∙ J .answer) in
-    joins-done (T .0) refl (joined-value J (T .1) (T .2))
+    promised _ _ _ _ (joins-done (T .0) refl (joined-value J (T .1) (T .2)))
 
 pub join-spec : {M : Type 1} → statement M
 join-spec =

@@ -4,6 +4,7 @@ use native.Mathlib.Omega.{arith}
 use borrow.Author.Tests.{not-true, not-false}
 use lib.Seq.{length-take-le}
 use Rattle.text.specs.Pieces.{pieces-few}
+use Rattle.ghosts.proofs.Answering.{answered}
 use Rattle.ghosts.proofs.Hearing.{said-of, refusal-said, words-said, refuses-says, says-as}
 use borrow.Author.Needs.{needs}
 use Rattle.ghosts.proofs.answer.respond.Statement.{statement}
@@ -16,7 +17,7 @@ same-length : tie.Need-same-length
 same-length c = search needs
 
 returns : tie.Need-returns
-returns c = (λ ps h. refuses-says (c .before .before .print-refusal .ensures) (sym (refusal-said (c .before .before .before .before .before .before .before .before .args .s) (c .before .before .before .before .before .before .before .before .args .words .now) (not-true _ (c .before .before .before .before .if1 .taken))) ∙ said-of ps h), c .before .before .print-refusal .ensures .inside)
+returns c = answered (c .before .before .before .before .before .before .before .before .pre .0) (λ ps h. refuses-says (c .before .before .print-refusal .ensures) (sym (refusal-said (c .before .before .before .before .before .before .before .before .args .s) (c .before .before .before .before .before .before .before .before .args .words .now) (not-true _ (c .before .before .before .before .if1 .taken))) ∙ said-of ps h)) (c .before .before .print-refusal .ensures .inside)
 
 slice-aggregate-answer-words : tie.Need-slice-aggregate-answer-words
 slice-aggregate-answer-words c =
@@ -30,7 +31,7 @@ same-length-2 : tie.Need-same-length-2
 same-length-2 c = search needs
 
 returns-2 : tie.Need-returns-2
-returns-2 c = (λ ps h. says-as (c .before .before .answer-words .ensures) (sym (words-said (c .before .before .before .before .before .before .before .before .before .args .s) (c .before .before .before .before .before .before .before .before .before .args .words .now) (not-false _ (c .before .before .before .before .before .if1 .left))) ∙ said-of ps h), c .before .before .answer-words .ensures .inside)
+returns-2 c = answered (c .before .before .before .before .before .before .before .before .before .pre .0) (λ ps h. says-as (c .before .before .answer-words .ensures) (sym (words-said (c .before .before .before .before .before .before .before .before .before .args .s) (c .before .before .before .before .before .before .before .before .before .args .words .now) (not-false _ (c .before .before .before .before .before .if1 .left))) ∙ said-of ps h)) (c .before .before .answer-words .ensures .inside)
 
 pub respond-spec : {M : Type 1} → statement M
 respond-spec =
