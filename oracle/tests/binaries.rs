@@ -1,6 +1,7 @@
 //! The two programs.
 
 use std::{
+    fs::File,
     io::Write,
     process::{Command, Stdio},
 };
@@ -33,6 +34,19 @@ fn oracle_prints_what_ghosts_prints() {
     assert_eq!(oracle("1 0 0 0 1 0 1 1 0 0 0 11 0"), "");
     assert_eq!(oracle(""), "refused 1\n");
     assert_eq!(oracle("x"), "refused 2\n");
+}
+
+#[test]
+fn oracle_says_what_it_cannot_read_or_write() {
+    let oracle = || Command::new(env!("CARGO_BIN_EXE_oracle"));
+    let directory = File::open("/").unwrap();
+    let read = oracle().stdin(directory).output().unwrap();
+    assert_eq!((read.status.code(), &read.stdout[..]), (Some(1), &[][..]));
+    assert!(read.stderr.starts_with(b"oracle: cannot read standard input: "));
+    let full = File::options().write(true).open("/dev/full").unwrap();
+    let write = oracle().stdin(Stdio::null()).stdout(full).output().unwrap();
+    assert_eq!(write.status.code(), Some(1));
+    assert!(write.stderr.starts_with(b"oracle: cannot write standard output: "));
 }
 
 #[test]

@@ -5,8 +5,11 @@ use crate::function::TARGET;
 const MAX_BLOCKS: u32 = 256;
 const MAX_ITEMS: u32 = 16384;
 
-/// A point has at most so many statements, and a statement so many entries.
-const POINT_STATEMENTS: usize = 512;
+/// An item gives at most so many statements: a use one; a target or a return one for each node of a
+/// state. So does the jump from the entry to the start block. (A point may have more: the uses of the
+/// entry are all at one.)
+const ITEM_STATEMENTS: usize = 512;
+/// A point, a verb, a local and at most 128 elements.
 const STATEMENT_ENTRIES: usize = 131;
 
 /// Of words that are no function record all is 0: they are refused before anything is lent.
@@ -50,8 +53,10 @@ impl Sizes {
         256 + 8 * self.items
     }
 
-    /// No statement record is longer: each item is a point, and so is the entry.
+    /// No statement record is longer: two counts, and two words for each entry of what the items and the
+    /// entry's jump give. 16,384 items give at most 131 * 512 * 16,385 = 1,098,974,720 entries, which is
+    /// below 2^32.
     pub fn longest_record(&self) -> usize {
-        2 + 2 * STATEMENT_ENTRIES * POINT_STATEMENTS * (self.items + 1)
+        2 + 2 * STATEMENT_ENTRIES * ITEM_STATEMENTS * (self.items + 1)
     }
 }

@@ -173,6 +173,26 @@ fn the_buffer_grows() {
     assert_eq!(read_record(statements.record()).unwrap().len(), statements.len());
 }
 
+/// All uses of the entry are at one point, which so has as many statements as there are uses, and those of
+/// the jump to a start block that is a join point.
+#[test]
+fn many_statements_at_the_entry() {
+    let mut types = Types::new();
+    let int = types.opaque();
+    let pair = types.structure(&[int, int]);
+    let mut function = Function::new(int, &[pair], &[]);
+    let block = function.block();
+    let (whole, field) = (Place::local(1), Place::local(1).field(0));
+    for _ in 0..1000 {
+        function.used_at_entry(&field);
+        function.used_at_entry(&whole);
+    }
+    function.write(block, Open::new().used(&field).goto(block));
+    let statements = ghost_statements(&types.record(), &function.record()).unwrap();
+    assert_eq!(statements.at(Point::Entry).count(), 2001);
+    assert_eq!(statements.len(), 2001);
+}
+
 /// On a thread of 768 KB the call has a stack of its own, or needs little.
 #[test]
 fn long_chains_on_a_small_stack() {

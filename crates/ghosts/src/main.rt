@@ -1,7 +1,8 @@
 // The program: both records from standard input as decimal words, the statements to standard output.
 ghost use mathlib.Core.Path.{_≡_};
+ghost use mathlib.Core.Bool.{true};
 ghost use lib.ListN.{length};
-ghost use Rattle.ghosts.specs.Said.{Hears, Ended};
+ghost use Rattle.ghosts.specs.Said.{Hears, Ended, Brings};
 
 mod answer;
 
@@ -27,40 +28,46 @@ fn page() -> [u8; 14336]
     [0; 14336]
 }
 
-// One read: going is false at the end of the input.
+// Where reading has come to: more may come, or the input has ended; neither, where a read failed.
 struct More {
     scan: Scan,
     going: bool,
+    ended: bool,
 }
 
+// What a read answered, taken up: so many bytes are scanned; 0 is the end of the input, and a number below 0 a failure.
+fn hear(s: Scan, got: isize, buf: &[u8], words: &mut [u32]) -> More
+    requires { ⌜ length (now words) ≡ 4096 ⌝ }
+    ensures { λ r. ⌜ Brings got (now (buf .entry)) s (now (words .entry)) r (now (words .exit)) ⌝ }
+{
+    let n = io::count(got, buf);
+    let t = scan_piece(s, &buf[..n], words);
+    More {
+        scan: t,
+        going: 0 < got,
+        ended: got == 0,
+    }
+}
+
+// One read, whatever it brings.
 fn read_some(s: Scan, words: &mut [u32]) -> More
     requires { ⌜ length (now words) ≡ 4096 ⌝ }
     ensures { λ r. ⌜ Hears s (now (words .entry)) (r .scan) (now (words .exit)) ⌝ }
 {
     let mut buf = [0u8; 4096];
     let got = libc::read(STDIN_FILENO, &mut buf);
-    if got <= 0 {
-        return More {
-            scan: s,
-            going: false,
-        };
-    }
-    let n = io::count(got, &buf);
-    let t = scan_piece(s, &buf[..n], words);
-    More {
-        scan: t,
-        going: true,
-    }
+    hear(s, got, &buf, words)
 }
 
-// The words of the whole input. The turns are counted down from a number that no run uses up, since nothing says that an input ends.
-fn read_all(words: &mut [u32]) -> Scan
+// The words of the whole input, if it is read to its end. The turns are counted down from a number that no run uses up, since nothing says that an input ends.
+fn read_all(words: &mut [u32]) -> More
     requires { ⌜ length (now words) ≡ 4096 ⌝ }
-    ensures { λ r. ⌜ Ended r (now (words .exit)) ⌝ }
+    ensures { λ r. ⌜ (r .ended ≡ true → Ended (r .scan) (now (words .exit))) ⌝ }
 {
     let mut m = More {
         scan: fresh(),
         going: true,
+        ended: false,
     };
     let mut turns = u64::MAX;
     while 0 < turns && m.going {
@@ -68,13 +75,24 @@ fn read_all(words: &mut [u32]) -> Scan
         let s = m.scan;
         m = read_some(s, words);
     }
-    close(m.scan, words)
+    let t = close(m.scan, words);
+    More {
+        scan: t,
+        going: m.going,
+        ended: m.ended,
+    }
 }
 
 fn main() {
     let mut words = room();
     let mut text = page();
-    let s = read_all(&mut words);
-    let n = respond(s, &words, &mut text);
-    io::write_all(STDOUT_FILENO, &text[..n]);
+    let m = read_all(&mut words);
+    if !m.ended {
+        os::fail(b"ghosts: cannot read standard input");
+        return;
+    }
+    let n = respond(m.scan, &words, &mut text);
+    if !io::write_all(STDOUT_FILENO, &text[..n]) {
+        os::fail(b"ghosts: cannot write standard output");
+    }
 }

@@ -37,7 +37,7 @@ same-length : tie.Need-same-length Inv-loop μ-loop
 same-length c = search needs
 
 returns : tie.Need-returns Inv-loop μ-loop
-returns c = heard-all (c .before .before .before .before .before .loop .inv) (c .before .before .close .ensures)
+returns c e = heard-all (c .before .before .before .before .before .loop .inv) (c .before .before .close .ensures)
 
 pub read-all-spec : {M : Type 1} → statement M
 read-all-spec =

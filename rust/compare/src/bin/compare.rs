@@ -4,10 +4,11 @@
 //!
 //! ```text
 //! compare [--seed S] [--count N]    the cases round each limit, then N random and damaged ones
-//! compare --exhaustive              all short records over a few words, all short blocks
+//! compare --exhaustive              all short records over a few words, all small functions
 //! ```
 //!
-//! The first difference ends the run with its input.
+//! The first difference ends the run with its input. The second run also fails if it accepts too few
+//! function records.
 
 use std::{
     fmt::{Debug, Write},
@@ -20,8 +21,17 @@ use hirvoksne::SHARE;
 use oracle::{
     calls,
     case::{Call, Case},
-    generate::{damage::damage_words, limits::limits, random, rng::Rng, Kind, Size},
+    function::{RETURN, STOP, TARGET},
+    generate::{
+        damage::damage_words,
+        draft::{push_switch, push_use, Draft, Item},
+        limits::limits,
+        random,
+        rng::Rng,
+        Kind, Size,
+    },
     ghost_statements::GhostStatements,
+    place::{Place, PlaceElem},
 };
 
 fn main() {
@@ -57,7 +67,7 @@ impl std::fmt::Display for Tally {
         write!(f, "accepted {accepted} ({} statements); refused", self.statements)?;
         let counts = refused.iter().enumerate().filter(|(_, &count)| count > 0);
         let counts: Vec<_> = counts.map(|(at, count)| format!("{}: {count}", at + 1)).collect();
-        write!(f, " {}", counts.join(", "))
+        write!(f, " {}", if counts.is_empty() { "none".to_string() } else { counts.join(", ") })
     }
 }
 
@@ -126,10 +136,12 @@ fn word<W: PartialEq + Debug>(name: &str, library: &[W], oracle: &[W]) -> Option
 }
 
 impl Tally {
-    /// Prints how often each answer came up since the last time.
-    fn part(&mut self, what: &str) {
+    /// Prints how often each answer came up since the last time; how many were accepted.
+    fn part(&mut self, what: &str) -> u64 {
         println!("{what}: {self}");
+        let accepted = self.answers[0];
         *self = Tally { cases: self.cases, ..Tally::default() };
+        accepted
     }
 
     /// Compares what both sides leave, then the safe call with it.
@@ -228,41 +240,126 @@ fn damaged_copy(rng: &mut Rng, case: &Case) -> Case {
     case
 }
 
-/// Of each record all of up to 6 words over a few; then all blocks of up to 5 items over a few. A type
-/// record that passes meets a function that returns, and a function record one opaque type.
+/// So many function records must be accepted, so that not only refusals are compared.
+const LEAST_ACCEPTED: u64 = 100_000;
+const OPAQUE: [u32; 4] = [1, 0, 0, 0];
+/// An opaque type, and a struct of two.
+const PAIR: [u32; 8] = [2, 2, 0, 6, 0, 2, 0, 0];
+/// And a struct of that and an opaque one.
+const OUTER: [u32; 12] = [3, 4, 0, 6, 6, 0, 2, 2, 0, 0, 1, 0];
+
+/// Of each record all of up to 6 words over a few; then function records whose sizes fit their length,
+/// and all small functions that are well formed. A type record that passes meets a function that returns.
 fn all_short(tally: &mut Tally) {
     const RETURNS: [u32; 9] = [1, 0, 1, 1, 0, 0, 0, 11, 0];
-    const OPAQUE: [u32; 4] = [1, 0, 0, 0];
-    const PAIR: [u32; 8] = [2, 2, 0, 6, 0, 2, 0, 0];
-    let room = [SHARE, SHARE, 32];
+    let room = room(0);
     let words = [0, 1, 2, 3, 4, 5, 6, 7, 8, 9, 10, u32::MAX];
     each_list(&words, 6, |types| tally.compare(&Input { types, function: &RETURNS, room }));
     tally.part("type records of up to 6 words");
     let words = [0, 1, 2, 4, 10, 11, u32::MAX];
     each_list(&words, 6, |function| tally.compare(&Input { types: &OPAQUE, function, room }));
-    tally.part("function records of up to 6 words");
-    // One block over an opaque local and a struct. All codes, and one that is none; all args 0, but
-    // a root and a field with 1 too.
+    let accepted = tally.part("function records of up to 6 words")
+        + any_layouts(tally)
+        + short_blocks(tally)
+        + small_functions(tally);
+    println!("{accepted} function records accepted");
+    if accepted < LEAST_ACCEPTED {
+        eprintln!("there should be {LEAST_ACCEPTED} at least");
+        exit(1)
+    }
+}
+
+/// Room for so many join points and some statements.
+fn room(join_points: usize) -> [usize; 3] {
+    [join_points * SHARE, join_points * SHARE, 128]
+}
+
+/// Function records of one or two locals, blocks and items. Each word but the sizes goes over all that can
+/// be right there and one more; the local types are both right.
+fn any_layouts(tally: &mut Tally) -> u64 {
+    let upto = |last: u32| (0..=last).collect::<Vec<u32>>();
+    let times = |count: u32, words: Vec<u32>| vec![words; count as usize];
+    for [l, b, i] in
+        [[1, 1, 1], [1, 1, 2], [1, 2, 1], [1, 2, 2], [2, 1, 1], [2, 1, 2], [2, 2, 1], [2, 2, 2]]
+    {
+        let sizes = vec![vec![l], upto(l), vec![b], vec![i]];
+        let layout = [times(l, upto(1)), times(b, upto(i)), times(b, upto(b))].concat();
+        let items = [times(i, upto(13)), times(i, upto(2))].concat();
+        each_choice(&[sizes, layout, items].concat(), |function| {
+            tally.compare(&Input { types: &PAIR, function, room: room(b as usize) });
+        });
+    }
+    tally.part("function records of 1 or 2 locals, blocks and items")
+}
+
+/// Well-formed functions over one struct: of one block with up to 3 uses, of two with up to 2 each, of
+/// three with at most one each.
+fn small_functions(tally: &mut Tally) -> u64 {
+    for (blocks, most_uses) in [(1, 3), (2, 2), (3, 1)] {
+        let bodies = bodies(blocks, most_uses);
+        each_choice(&vec![(0..bodies.len()).collect(); blocks], |chosen| {
+            let mut draft = Draft::new(vec![0, 2], 1);
+            chosen.iter().for_each(|&body| draft.block(bodies[body].clone()));
+            tally.compare(&Input { types: &OUTER, function: &draft.words(), room: room(blocks) });
+        });
+    }
+    tally.part("functions of up to 3 blocks")
+}
+
+/// All blocks of such a function: uses of the struct, of a field and of a field of that; and each ender.
+fn bodies(blocks: usize, most_uses: usize) -> Vec<Vec<Item>> {
+    let mut ends: Vec<Vec<Item>> = vec![vec![(RETURN, 0)], vec![(STOP, 0)]];
+    for first in 0..blocks {
+        ends.push(vec![(TARGET, first as u32)]);
+        for second in 0..blocks {
+            let mut items = vec![];
+            push_switch(&mut items, None, &[(0, first)], second);
+            ends.push(items);
+        }
+    }
+    let mut bodies = vec![];
+    each_list(&[0, 1, 2], most_uses, |depths| {
+        for end in &ends {
+            let mut items = vec![];
+            for &depth in depths {
+                push_use(&mut items, &Place::new(1, vec![PlaceElem::Field(0); depth]));
+            }
+            items.extend(end);
+            bodies.push(items);
+        }
+    });
+    bodies
+}
+
+/// One block over an opaque local and a struct. All codes, and one that is none; all args 0, but a root
+/// and a field with 1 too.
+fn short_blocks(tally: &mut Tally) -> u64 {
     let items: Vec<(u32, u32)> = (0..=13).map(|op| (op, 0)).chain([(0, 1), (2, 1)]).collect();
     each_list(&items, 5, |items| {
         let mut function = vec![2, 1, 1, items.len() as u32, 0, 1, 0, 0];
         function.extend(items.iter().map(|(op, _)| op));
         function.extend(items.iter().map(|(_, arg)| arg));
-        tally.compare(&Input { types: &PAIR, function: &function, room });
+        tally.compare(&Input { types: &PAIR, function: &function, room: room(1) });
     });
-    tally.part("blocks of up to 5 items");
+    tally.part("blocks of up to 5 items")
 }
 
 /// All lists of up to `most` of these, the shorter first.
 fn each_list<W: Copy>(words: &[W], most: usize, mut call: impl FnMut(&[W])) {
     for length in 0..=most {
-        let mut digits = vec![0; length];
-        loop {
-            let list: Vec<W> = digits.iter().map(|&digit: &usize| words[digit]).collect();
-            call(&list);
-            let Some(at) = digits.iter().rposition(|&digit| digit + 1 < words.len()) else { break };
-            digits[at] += 1;
-            digits[at + 1..].fill(0);
-        }
+        each_choice(&vec![words.to_vec(); length], &mut call);
+    }
+}
+
+/// All lists that have at each place one of the words that are given for it.
+fn each_choice<W: Copy>(choices: &[Vec<W>], mut call: impl FnMut(&[W])) {
+    let mut at = vec![0; choices.len()];
+    loop {
+        let list: Vec<W> = choices.iter().zip(&at).map(|(words, &at)| words[at]).collect();
+        call(&list);
+        let more = |place: &usize| at[*place] + 1 < choices[*place].len();
+        let Some(place) = (0..at.len()).rev().find(more) else { break };
+        at[place] += 1;
+        at[place + 1..].fill(0);
     }
 }
