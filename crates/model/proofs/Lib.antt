@@ -14,3 +14,5 @@ mod Refusals
 mod Limits
 -- the calls on states
 mod States
+-- the refusals of each call, one for each number
+mod Numbers
