@@ -1,4 +1,4 @@
--- What reads answer, and the text that was read.
+-- What reads answer, and the pieces that were read.
 use mathlib.Core.Path.{_≡_, refl, sym, ap, _∙_}
 use mathlib.Core.Bool.{true, false}
 use mathlib.Core.List.{List, [], _∷_, _++_}
@@ -12,15 +12,14 @@ use borrow.Author.Tests.{ne-eqb}
 use mir.Syntax.{w64}
 use mir.Val.{SFits, toZ, ofZ}
 use mir.Facts.{toZ-ofZ}
-use Rattle.model.specs.Answer.{refused, done}
-use Rattle.model.specs.Ghosts.{fresh, close, scan, answer-text, printed, ghosts}
-use Rattle.records.specs.Scanned.{scan-pieces, joined}
+use Rattle.model.specs.Ghosts.{fresh, close, scan}
+use Rattle.records.specs.Scanned.{scan-pieces}
 use Rattle.io.specs.Counts.{clamped}
 use Rattle.text.specs.declared.scan.Scan.{Scan}
 use Rattle.text.specs.Reading.{Reads, Steps}
-use Rattle.text.specs.Pieces.{answer, pieces-more, pieces-words}
-use Rattle.text.specs.Printing.{Refuses}
-use Rattle.ghosts.specs.Said.{Hears, Ended, Says, some-came, none-came}
+use Rattle.text.specs.Pieces.{pieces-more}
+use Rattle.answer.specs.Said.{Ended}
+use Rattle.ghosts.specs.Heard.{Hears, some-came, none-came}
 
 -- some pieces have been read
 pub record Heard (s : Scan) (words : List ℕ) : Type 0 where
@@ -51,25 +50,3 @@ heard-more h k = record { pieces = h .pieces ++ (k .piece ∷ []); reads = piece
 -- the end
 pub heard-all : {s r : Scan} {words after : List ℕ} → Heard s words → Steps close s words r after → Ended r after
 heard-all h k = record { pieces = h .pieces; reads = k .reads _ (h .reads) }
-
--- what is printed of what was read
-pub said-of : (ps : List (List ℕ)) {s : Scan} {words : List ℕ} → Reads (close (scan-pieces ps fresh)) s words → printed (answer s words) ≡ ghosts (joined ps)
-unfolding ghosts
-said-of ps {s} {words} h = sym (ap printed (pieces-words ps s words h))
-
--- of a text that is refused
-pub refusal-said : (s : Scan) (words : List ℕ) → s .fine ≡ false → printed (answer s words) ≡ answer-text 0 (refused 2)
-unfolding printed
-refusal-said s words e = rw e refl
-
--- of its words
-pub words-said : (s : Scan) (words : List ℕ) → s .fine ≡ true → printed (answer s words) ≡ printed (done (take (s .total) words))
-words-said s words e = rw e refl
-
--- a refusal is printed
-pub refuses-says : {t t′ : List ℕ} {n r : ℕ} {bytes : List ℕ} → Refuses t t′ n r → answer-text 0 (refused r) ≡ bytes → Says t t′ n bytes
-refuses-says h e = record { long = h .long; inside = h .inside; said = h .said ∙ e }
-
--- bytes are printed, by another name
-pub says-as : {t t′ : List ℕ} {r : ℕ} {bytes others : List ℕ} → Says t t′ r bytes → bytes ≡ others → Says t t′ r others
-says-as h e = record { long = h .long; inside = h .inside; said = h .said ∙ e }

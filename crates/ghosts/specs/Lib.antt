@@ -1,2 +1,2 @@
 -- What the contracts of ghosts cite beside the definitions of model.
-pub mod Said
+pub mod Heard

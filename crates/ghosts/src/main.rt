@@ -2,24 +2,16 @@
 ghost use mathlib.Core.Path.{_≡_};
 ghost use mathlib.Core.Bool.{true};
 ghost use lib.ListN.{length};
-ghost use Rattle.ghosts.specs.Said.{Hears, Ended, Brings};
-
-mod answer;
-
+ghost use Rattle.answer.specs.Said.{Ended};
+ghost use Rattle.ghosts.specs.Heard.{Hears, Brings};
 use answer::respond;
+use answer::room;
 use libc::STDIN_FILENO;
 use libc::STDOUT_FILENO;
 use text::scan::Scan;
 use text::scan::close;
 use text::scan::fresh;
 use text::scan::scan_piece;
-
-// Room for the words of a text.
-fn room() -> [u32; 4096]
-    ensures { λ r. ⌜ length r ≡ 4096 ⌝ }
-{
-    [0; 4096]
-}
 
 // Room for what is printed: 14 bytes at the most for each of 1,024 entries.
 fn page() -> [u8; 14336]

@@ -1,15 +1,15 @@
--- `ghosts::answer::answer_words` meets its contract: where the records part, and whether words are left over. Assumes nothing.
+-- `answer::answer_words` meets its contract: where the records part, and whether words are left over. Assumes nothing.
 use mathlib.Core.Path.{_≡_, sym, _∙_}
 use Prim.Native.Nat.{_-_}
 use native.Mathlib.Omega.{arith}
 use lib.ListN.{length, take, drop, length-drop}
 use lib.Seq.{length-take-le, take-all}
 use Rattle.model.specs.Ghosts.{function-words}
-use Rattle.ghosts.proofs.Answering.{spare-text, records-text}
-use Rattle.ghosts.proofs.Hearing.{refuses-says, says-as}
+use Rattle.answer.proofs.Answering.{spare-text, records-text}
+use Rattle.answer.proofs.Saying.{refuses-says, says-as}
 use borrow.Author.Needs.{needs}
-use Rattle.ghosts.proofs.answer.answer_words.Statement.{statement}
-use Rattle.ghosts.proofs.answer.answer_words.Tie as tie
+use Rattle.answer.proofs.answer_words.Statement.{statement}
+use Rattle.answer.proofs.answer_words.Tie as tie
 
 function-start-requires : tie.Need-function-start-requires
 function-start-requires c κs = search needs

@@ -1,4 +1,4 @@
-// What the program answers to the words that it has read, as text.
+// What `ghosts` answers to a text: words read from it, the call, and its answer as text.
 ghost use mathlib.Core.Path.{_≡_};
 ghost use mathlib.Core.List.{List};
 ghost use Prim.Native.Nat.{ℕ, _≤_};
@@ -10,14 +10,24 @@ ghost use Rattle.model.specs.Ghosts.{fresh, close, answer-text, printed, ghosts
 ghost use Rattle.model.specs.Promised.{Answered};
 ghost use Rattle.records.specs.Scanned.{scan-pieces, joined};
 ghost use Rattle.text.specs.Reading.{Reads};
-ghost use Rattle.ghosts.specs.Said.{Ended, Says};
+ghost use Rattle.answer.specs.Said.{Ended, Says};
 use fold_unfold::Ghosts;
 use fold_unfold::ghost_statements;
 use text::print::print_record;
 use text::print::print_refusal;
 use text::scan::Scan;
+use text::scan::close;
+use text::scan::fresh;
+use text::scan::scan_piece;
 use text::split::function_length;
 use text::split::function_start;
+
+// Room for the words of a text.
+pub fn room() -> [u32; 4096]
+    ensures { λ r. ⌜ length r ≡ 4096 ⌝ }
+{
+    [0; 4096]
+}
 
 // An array of the store, for 16 join points.
 fn store() -> [u16; 8192]
@@ -78,4 +88,16 @@ pub fn respond(s: Scan, words: &[u32], text: &mut [u8]) -> usize
     }
     let n = s.total;
     answer_words(&words[..n], text)
+}
+
+// The answer to a whole text. text has room for 14 bytes for each of 1,024 entries.
+pub fn ghosts(bytes: &[u8], text: &mut [u8]) -> usize
+    requires { ⌜ length (now text) ≡ 14336 ⌝ }
+    ensures { λ r. ⌜ Says (now (text .entry)) (now (text .exit)) r (ghosts (now (bytes .entry))) ⌝ }
+    ensures answered { λ r. ⌜ Answered (take r (now (text .exit))) ⌝ }
+{
+    let mut words = room();
+    let s = scan_piece(fresh(), bytes, &mut words);
+    let t = close(s, &mut words);
+    respond(t, &words, text)
 }

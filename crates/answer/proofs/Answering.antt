@@ -18,7 +18,7 @@ use Rattle.records.specs.Scanned.{scan-pieces, joined}
 use Rattle.demand.specs.Refused.{ghosts-answered}
 use Rattle.text.specs.declared.scan.Scan.{Scan}
 use Rattle.text.specs.Reading.{Reads}
-use Rattle.ghosts.specs.Said.{Ended, Says}
+use Rattle.answer.specs.Said.{Ended, Says}
 use Rattle.fold_unfold.specs.declared.Ghosts.{Ghosts}
 use Rattle.fold_unfold.specs.declared.Ghosts.the-variants.{Done, Refused}
 use Rattle.fold_unfold.specs.Answers.{answer-of, Whole}

@@ -1,4 +1,4 @@
--- `ghosts::answer::answer_records` meets its contract: what the call answers is printed. Assumes nothing.
+-- `answer::answer_records` meets its contract: what the call answers is printed. Assumes nothing.
 use mathlib.Core.Path.{sym, ap, _∙_}
 use Prim.Native.Nat.{ℕ}
 use native.Mathlib.Omega.{arith}
@@ -6,11 +6,11 @@ use Rattle.model.specs.Block.{entry-point}
 use Rattle.model.specs.Record.{statement-record, lent}
 use Rattle.model.specs.Ghosts.{ghosts-buffer}
 use Rattle.text.proofs.Lines.{record-whole}
-use Rattle.ghosts.proofs.Answering.{Recorded, refused-text, done-text}
-use Rattle.ghosts.proofs.Hearing.{refuses-says}
+use Rattle.answer.proofs.Answering.{Recorded, refused-text, done-text}
+use Rattle.answer.proofs.Saying.{refuses-says}
 use borrow.Author.Needs.{needs}
-use Rattle.ghosts.proofs.answer.answer_records.Statement.{statement}
-use Rattle.ghosts.proofs.answer.answer_records.Tie as tie
+use Rattle.answer.proofs.answer_records.Statement.{statement}
+use Rattle.answer.proofs.answer_records.Tie as tie
 
 store-requires : tie.Need-store-requires
 store-requires c κs = search needs

@@ -1,14 +1,14 @@
--- `ghosts::answer::respond` meets its contract: a text that is refused, or its words. Assumes nothing.
+-- `answer::respond` meets its contract: a text that is refused, or its words. Assumes nothing.
 use mathlib.Core.Path.{sym, _∙_}
 use native.Mathlib.Omega.{arith}
 use borrow.Author.Tests.{not-true, not-false}
 use lib.Seq.{length-take-le}
 use Rattle.text.specs.Pieces.{pieces-few}
-use Rattle.ghosts.proofs.Answering.{answered}
-use Rattle.ghosts.proofs.Hearing.{said-of, refusal-said, words-said, refuses-says, says-as}
+use Rattle.answer.proofs.Answering.{answered}
+use Rattle.answer.proofs.Saying.{said-of, refusal-said, words-said, refuses-says, says-as}
 use borrow.Author.Needs.{needs}
-use Rattle.ghosts.proofs.answer.respond.Statement.{statement}
-use Rattle.ghosts.proofs.answer.respond.Tie as tie
+use Rattle.answer.proofs.respond.Statement.{statement}
+use Rattle.answer.proofs.respond.Tie as tie
 
 print-refusal-requires : tie.Need-print-refusal-requires
 print-refusal-requires c κs = search needs

@@ -1,0 +1,2 @@
+-- What the contracts of answer cite beside the definitions of model.
+pub mod Said
