@@ -1,4 +1,4 @@
-//! The one call into the static library, and all that is `unsafe` here.
+//! The calls into the static library, and all that is `unsafe` here.
 
 #![allow(unsafe_code)]
 
@@ -17,6 +17,9 @@ mod foreign {
             out: *mut u32,
             out_len: usize,
         ) -> u32;
+
+        /// An array is passed as its pointer.
+        pub fn exports_ghosts(bytes: *const u8, bytes_len: usize, text: *mut u8) -> usize;
     }
 }
 
@@ -49,3 +52,13 @@ pub fn exported(
         )
     }
 }
+
+/// What `ghosts` prints of these bytes is put at the start of `text`; how long it is.
+pub fn exported_ghosts(bytes: &[u8], text: &mut [u8; PAGE]) -> usize {
+    // SAFETY: As above: a pointer and its length, and a pointer to an array of as many bytes as the call
+    // takes it for.
+    unsafe { foreign::exports_ghosts(bytes.as_ptr(), bytes.len(), text.as_mut_ptr()) }
+}
+
+/// Room for what `ghosts` prints.
+pub const PAGE: usize = 14336;

@@ -39,8 +39,8 @@ pub use stack::{CALLERS_BLOCKS, STACK};
 pub use statements::{read_record, Point, Statement, Statements, Stored, Verb, SHARE};
 pub use types::{Later, Pointer, Type, Types, Variant};
 
-use exported_call::exported;
-use sizes::Sizes;
+use exported_call::{exported, exported_ghosts, PAGE};
+use sizes::{Sizes, MAX_BLOCKS};
 
 /// How much the statement buffer grows when it was too short.
 const GROWTH: usize = 4;
@@ -112,4 +112,24 @@ fn counts(answer: u32, out: &[u32]) -> Result<(usize, usize), Refusal> {
         0 => Ok((out[0] as usize, out[1] as usize)),
         number => Err(Refusal::from_number(number).expect("the contract: a refusal's number")),
     }
+}
+
+/// What the program `ghosts` prints of a text: of both records as decimal words, parted by blanks or
+/// newlines, a line per statement, or `refused` and the number. It takes 4,096 words, 16 join points and
+/// 1,024 entries at the most.
+///
+/// ```
+/// let text = "2 2 0 6 0 2 0 0  2 0 1 6 0 1 0 0 0 2 5 0 5 11 1 0 0 1 0 0";
+/// assert_eq!(hirvoksne::ghosts(text.as_bytes()), "at 2 unfold _1\nat 4 fold _1\n");
+/// assert_eq!(hirvoksne::ghosts(b"2 2 0 6"), "refused 1\n");
+/// ```
+///
+/// # Panics
+///
+/// If no thread with [`STACK`] bytes of stack can be had.
+pub fn ghosts(text: &[u8]) -> String {
+    let mut page = [0; PAGE];
+    let length = stack::run(MAX_BLOCKS as usize, || exported_ghosts(text, &mut page));
+    let printed = std::str::from_utf8(&page[..length]).expect("the contract: digits and words");
+    printed.to_string()
 }

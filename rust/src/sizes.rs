@@ -2,7 +2,7 @@
 
 use crate::function::TARGET;
 
-const MAX_BLOCKS: u32 = 256;
+pub const MAX_BLOCKS: u32 = 256;
 const MAX_ITEMS: u32 = 16384;
 
 /// An item gives at most so many statements: a use one; a target or a return one for each node of a

@@ -3,7 +3,8 @@
 //! compared too.
 //!
 //! ```text
-//! compare [--seed S] [--count N]    the cases round each limit, then N random and damaged ones
+//! compare [--seed S] [--count N]    the cases round each limit, then N random and damaged ones, then
+//!                                   texts for `ghosts`, a tenth as many
 //! compare --exhaustive              all short records over a few words, all small functions
 //! ```
 //!
@@ -45,9 +46,8 @@ fn main() {
         all_short(&mut tally);
     } else {
         limits_and_random(&mut tally, seed, count);
-    }
-    if !exhaustive {
         tally.part(&format!("limits, and {count} cases of seed {seed}"));
+        texts(&mut tally, seed, count / 10);
     }
     println!("{} cases, no difference, {:.1?}", tally.cases, start.elapsed());
 }
@@ -193,6 +193,27 @@ fn limits_and_random(tally: &mut Tally, seed: u64, count: u64) {
             }
         }
     }
+}
+
+/// What is printed of texts: those round each limit, and so many random and damaged ones.
+fn texts(tally: &mut Tally, seed: u64, count: u64) {
+    let kind = Kind::Call(Call::Ghosts);
+    let mut rng = Rng::new(seed);
+    let random = (0..count).filter_map(|_| random(&mut rng, kind, Size::Small, None));
+    let limits = limits().into_iter().map(|(_, case)| case);
+    let mut compared = 0;
+    for case in limits.filter(|case| case.call == Call::Ghosts).chain(random) {
+        let (library, oracle) =
+            (hirvoksne::ghosts(&case.input), oracle::ghosts::ghosts(&case.input));
+        if library != oracle {
+            let text = String::from_utf8_lossy(&case.input);
+            eprintln!("a difference, of {text:?}\nlibrary {library:?}\noracle {oracle:?}");
+            exit(1)
+        }
+        compared += 1;
+    }
+    println!("{compared} texts");
+    tally.cases += compared;
 }
 
 /// A case of the generator, of the whole call or of a layout alone, and perhaps damaged copies of it.
