@@ -69,8 +69,9 @@ module _ (Γ locals : List ℕ) where
   pub record Use-Promise (s : State) (ops args : List ℕ) (what : Recorded) (u : State) : Type 0 where
     -- the same call once more records nothing and changes nothing
     pub again : call-projection Γ locals u ops args ≡ done (nothing, u)
-    -- what is recorded, carried out by `fold` or `unfold` on the state before, gives the state after
+    -- where nothing is recorded nothing has changed
     pub unchanged : what ≡ nothing → u ≡ s
+    -- what is recorded, carried out by `fold` or `unfold` on the state before, gives the state after
     pub folds : what ≡ fold → call-carry Γ locals Fold s ops args ≡ done u
     pub unfolds : (n : ℕ) → what ≡ unfold-at n → call-carry Γ locals Unfold s (take (suc n) ops) (take (suc n) args) ≡ done u
 
