@@ -1,17 +1,21 @@
 -- What is printed of what was read.
-use mathlib.Core.Path.{_≡_, refl, sym, ap, _∙_}
+use mathlib.Core.Path.{_≡_, refl, sym, ap, ap₂, _∙_}
 use mathlib.Core.Bool.{true, false}
-use mathlib.Core.List.{List, [], _∷_, append-nil}
-use Prim.Native.Nat.{ℕ}
-use lib.ListN.{length, take}
+use mathlib.Core.List.{List, [], _∷_, _++_, append-nil}
+use Prim.Native.Nat.{ℕ, _-_}
+use native.Mathlib.Omega.{arith}
+use lib.ListN.{length, take, replicate}
+use lib.Seq.{length-take-le, take-at}
 use Rattle.model.specs.Answer.{refused, done}
+use Rattle.model.specs.Record.{lent}
 use Rattle.model.specs.Ghosts.{fresh, close, scan, answer-text, printed, ghosts}
 use Rattle.records.specs.Scanned.{scan-pieces, joined}
 use Rattle.text.specs.declared.scan.Scan.{Scan}
 use Rattle.text.specs.Reading.{Reads, Begins, Steps}
 use Rattle.text.specs.Pieces.{answer, pieces-words}
 use Rattle.text.specs.Printing.{Refuses}
-use Rattle.answer.specs.Said.{Says}
+use Rattle.statements.specs.Moved.{cleared}
+use Rattle.answer.specs.Said.{Says, Printed}
 
 -- what is printed of what was read
 pub said-of : (ps : List (List ℕ)) {s : Scan} {words : List ℕ} → Reads (close (scan-pieces ps fresh)) s words → printed (answer s words) ≡ ghosts (joined ps)
@@ -43,3 +47,13 @@ read-whole p b l h k = k .reads _ (h .reads _ (b _ l))
 -- and is what its pieces are, joined
 pub joined-whole : (p : List ℕ) → ghosts (joined (p ∷ [])) ≡ ghosts p
 joined-whole p = ap ghosts (append-nil p)
+
+-- what is printed, with zeros behind it
+pub printed-whole : {t t₁ t′ : List ℕ} {r : ℕ} {bytes : List ℕ} → Says t t₁ r bytes → t′ ≡ cleared t₁ r → Printed (length t) bytes r t′ × (take r t′ ≡ bytes)
+unfolding cleared lent
+printed-whole {t} {t₁} {t′} {r} {bytes} S e =
+    let n : length (take r t₁) ≡ r = length-take-le r t₁ (omega (arith, S .long, S .inside)) in
+    let c : r ≡ length bytes = sym n ∙ ap length (S .said) in
+    let l : t′ ≡ bytes ++ replicate (length t - length bytes) 0 =
+    e ∙ ap₂ (λ (p : List ℕ) (k : ℕ). p ++ replicate k 0) (S .said) (ap₂ (λ (a b : ℕ). a - b) (S .long) c) in
+    (record { counted = c; left = l }, ap₂ take c l ∙ take-at bytes _ (length bytes) refl)

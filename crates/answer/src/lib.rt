@@ -10,7 +10,8 @@ ghost use Rattle.model.specs.Ghosts.{fresh, close, answer-text, printed, ghosts
 ghost use Rattle.model.specs.Promised.{Answered};
 ghost use Rattle.records.specs.Scanned.{scan-pieces, joined};
 ghost use Rattle.text.specs.Reading.{Reads};
-ghost use Rattle.answer.specs.Said.{Ended, Says};
+ghost use Rattle.statements.specs.Moved.{cleared};
+ghost use Rattle.answer.specs.Said.{Ended, Says, Printed};
 use fold_unfold::Ghosts;
 use fold_unfold::ghost_statements;
 use text::print::print_record;
@@ -90,14 +91,29 @@ pub fn respond(s: Scan, words: &[u32], text: &mut [u8]) -> usize
     answer_words(&words[..n], text)
 }
 
-// The answer to a whole text. text has room for 14 bytes for each of 1,024 entries.
+// Zeros from a byte on.
+fn clear(text: &mut [u8], from: usize)
+    requires { ⌜ from ≤ length (now text) ⌝ }
+    ensures { λ r. ⌜ now (text .exit) ≡ cleared (now (text .entry)) from ⌝ }
+{
+    let n = text.len();
+    let mut i = from;
+    while i < n {
+        text[i] = 0;
+        i += 1;
+    }
+}
+
+// The answer to a whole text. text has room for 14 bytes for each of 1,024 entries; zeros stand behind what is printed.
 pub fn ghosts(bytes: &[u8], text: &mut [u8]) -> usize
     requires { ⌜ length (now text) ≡ 14336 ⌝ }
-    ensures { λ r. ⌜ Says (now (text .entry)) (now (text .exit)) r (ghosts (now (bytes .entry))) ⌝ }
+    ensures { λ r. ⌜ Printed (length (now (text .entry))) (ghosts (now (bytes .entry))) r (now (text .exit)) ⌝ }
     ensures answered { λ r. ⌜ Answered (take r (now (text .exit))) ⌝ }
 {
     let mut words = room();
     let s = scan_piece(fresh(), bytes, &mut words);
     let t = close(s, &mut words);
-    respond(t, &words, text)
+    let n = respond(t, &words, text);
+    clear(text, n);
+    n
 }

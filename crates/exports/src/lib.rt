@@ -1,11 +1,11 @@
 // The calls for programs in Rust and C, as a static library: the whole-function call, and what `ghosts` prints of a text.
 ghost use mathlib.Core.Path.{_≡_};
 ghost use mathlib.Core.List.{_∷_};
-ghost use lib.ListN.{take};
+ghost use lib.ListN.{length, take};
 ghost use Rattle.model.specs.Replay.{Replayed};
 ghost use Rattle.model.specs.Promised.{One-of, whole-numbers, Answered};
 ghost use Rattle.model.specs.Ghosts.{ghosts};
-ghost use Rattle.answer.specs.Said.{Says};
+ghost use Rattle.answer.specs.Said.{Printed};
 ghost use Rattle.exports.specs.Answers.{Exported};
 use fold_unfold::Ghosts;
 use fold_unfold::ghost_statements;
@@ -31,10 +31,10 @@ pub extern "C" fn exports_ghost_statements(
     }
 }
 
-// What `ghosts` prints of a text: so many bytes of text.
+// What `ghosts` prints of a text: so many bytes of text, and zeros behind them.
 #[no_mangle]
 pub extern "C" fn exports_ghosts(bytes: &[u8], text: &mut [u8; 14336]) -> usize
-    ensures { λ r. ⌜ Says (now (text .entry)) (now (text .exit)) r (ghosts (now (bytes .entry))) ⌝ }
+    ensures { λ r. ⌜ Printed (length (now (text .entry))) (ghosts (now (bytes .entry))) r (now (text .exit)) ⌝ }
     ensures answered { λ r. ⌜ Answered (take r (now (text .exit))) ⌝ }
 {
     answer::ghosts(bytes, text)

@@ -1,7 +1,8 @@
 -- `answer::ghosts` meets its contract: the text is one piece. Assumes nothing.
 use borrow.Author.Needs.{needs}
 use mathlib.Core.List.{[], _∷_}
-use Rattle.answer.proofs.Saying.{read-whole, joined-whole, says-as}
+use Rattle.demand.specs.Refused.{ghosts-answered}
+use Rattle.answer.proofs.Saying.{read-whole, joined-whole, says-as, printed-whole}
 use Rattle.answer.proofs.ghosts.Statement.{statement}
 use Rattle.answer.proofs.ghosts.Tie as tie
 
@@ -35,17 +36,22 @@ respond-requires c κs =
       b .pre,
     )
 
+clear-requires : tie.Need-clear-requires
+clear-requires c κs = search needs
+
 same-length : tie.Need-same-length
 same-length c = search needs
 
 returns : tie.Need-returns
 returns c =
-    let r = c .before .before in
+    let z = c .before .before in
+    let r = z .before .before .before .before in
     let k = r .before .before .before .before in
     let p = k .before .before .before in
     let b = p .before .before .before .before .before .before in
     let d = read-whole (b .args .bytes .now) (p .before .before .fresh .ensures) (p .before .before .before .room .ensures) (p .scan-piece .ensures) (k .close .ensures) in
-    (says-as (r .respond .ensures .0 (b .args .bytes .now ∷ []) d) (joined-whole (b .args .bytes .now)), r .respond .ensures .1 .1)
+    let w = printed-whole (says-as (r .respond .ensures .0 (b .args .bytes .now ∷ []) d) (joined-whole (b .args .bytes .now))) (z .clear .ensures) in
+    (w .0, rw (w .1) (ghosts-answered (b .args .bytes .now)))
 
 pub ghosts-spec : {M : Type 1} → statement M
 ghosts-spec =
@@ -59,5 +65,6 @@ ghosts-spec =
     close-requires
     slice-aggregate-respond
     respond-requires
+    clear-requires
     same-length
     returns)

@@ -1,35 +1,14 @@
 -- `statements::clear` meets its contract. The loop's invariant: what stands before i is the front of the buffer, then zeros. Assumes nothing.
 use borrow.Author.Needs.{needs}
-use mathlib.Core.Path.{_≡_, sym, _∙_, ap}
-use mathlib.Core.List.{List, [], _∷_, _++_, append-nil, append-assoc}
-use Prim.Native.Nat.{ℕ, suc, _+_, _-_, _≤_, _<_}
-use native.Mathlib.Numerals.{add-one}
+use mathlib.Core.Path.{_≡_, sym, _∙_}
+use Prim.Native.Nat.{ℕ, _-_, _≤_}
 use native.Mathlib.Omega.{arith}
-use lib.ListN.{length, take, set, replicate, length-set, replicate-append-replicate}
-use lib.Seq.{take-all, take-suc-set}
+use lib.ListN.{length, take, length-set}
+use lib.Seq.{take-all}
 use Rattle.statements.specs.Moved.{cleared}
+use Rattle.statements.proofs.Zeros.{zeroed, clear-none, clear-more}
 use Rattle.statements.proofs.clear.Statement.{statement}
 use Rattle.statements.proofs.clear.Tie as tie
-
--- n zeros behind p
-zeroed : List ℕ → ℕ → List ℕ
-zeroed p n = p ++ replicate n 0
-
--- none
-clear-none : (p : List ℕ) (n : ℕ) → n ≡ 0 → p ≡ zeroed p n
-unfolding zeroed
-clear-none p n e = sym (append-nil p) ∙ ap (λ (k : ℕ). p ++ replicate k 0) (sym e)
-
--- one more
-clear-more : (a p : List ℕ) (i n m : ℕ) → i < length a → suc n ≡ m → take i a ≡ zeroed p n → take (i + 1) (set a i 0) ≡ zeroed p m
-unfolding zeroed
-clear-more a p i n m h e w =
-    let one : n + 1 ≡ m = omega arith in
-    rw add-one (take-suc-set a i 0 h)
-    ∙ ap (λ (l : List ℕ). l ++ (0 ∷ [])) w
-    ∙ append-assoc p (replicate n 0) (0 ∷ [])
-    ∙ ap (λ (l : List ℕ). p ++ l) (replicate-append-replicate n 1 0)
-    ∙ ap (λ (k : ℕ). p ++ replicate k 0) one
 
 abbrev Inv-loop : tie.InvT-loop
 Inv-loop out₀ from n i₀ out i = (from ≤ i) × (i ≤ n) × (n ≡ length out₀) × (length out ≡ n) × (take i out ≡ zeroed (take from out₀) (i - from))
