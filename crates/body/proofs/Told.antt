@@ -4,7 +4,7 @@ use mathlib.Core.Path.{_≡_, refl, sym, ap, ap₂, _∙_}
 use mathlib.Core.Bool.{Bool, true, false, cond}
 use mathlib.Core.List.{List, [], _∷_, map, append-nil}
 use mathlib.Core.Option.{some}
-use Prim.Native.Nat.{ℕ, zero, suc, _+_, _≤_}
+use Prim.Native.Nat.{ℕ, _+_, _≤_}
 use native.Mathlib.Numerals.{add-one}
 use native.Mathlib.Omega.{arith}
 use lib.ListN.{length, take, length-map}
@@ -12,17 +12,17 @@ use lib.Seq.{take-all}
 use Rattle.model.specs.Answer.{refused, done}
 use Rattle.model.specs.State.{pairs}
 use Rattle.model.specs.Tree.{Forest, unfolded}
-use Rattle.model.specs.Place.{Place, Spot, Verb, Fold, Unfold, At, base, stops}
+use Rattle.model.specs.Place.{Place, Spot, Verb, Fold, Unfold, At, base}
 use Rattle.model.specs.Walk.{projection, changed, reached, pick}
 use Rattle.model.specs.Frame.{mark}
 use Rattle.model.specs.Record.{Entry, elem-entry, verb-entry, point-entry, line-entries, entries}
 use Rattle.model.specs.Calls.{Recorded, nothing, fold, unfold-at, recorded-verb, recorded-as, spot-of}
-use Rattle.base.specs.Tests.{split, clash}
+use Rattle.base.specs.Tests.{clash}
 use Rattle.base.specs.Answer.{good-at, split-answer}
 use Rattle.laws.specs.Places.{base-first, base-short}
 use Rattle.laws.specs.Recorded.{numbered, projection-recording}
-use Rattle.records.specs.Spots.{spot-entries, place-entries, spot-items, take-entries}
-use Rattle.records.specs.Pairs.{pairs-halves, take-pairs}
+use Rattle.records.specs.Spots.{spot-entries, place-entries, spot-items}
+use Rattle.records.specs.Pairs.{pairs-halves, take-pairs, take-map}
 use Rattle.blocks.proofs.Elements.{spot-ops, spot-args}
 use Rattle.env.specs.Answers.{recorded, projected}
 use Rattle.env.specs.declared.project.Projected.the-variants.{Nothing, Fold as Folds, Unfold as Unfolds, Refused}
@@ -44,7 +44,7 @@ module _ (ops args : List ℕ) (q : Spot) (is : spot-of ops args ≡ some q) whe
   items-base : pairs (take (length (base (q .place)) + 1) ops) (take (length (base (q .place)) + 1) args) ≡ (0, q .local) ∷ place-entries (base (q .place))
   items-base =
       items-first (length (base (q .place)) + 1)
-      ∙ rw add-one (ap (λ (l : List Entry). (0, q .local) ∷ l) (take-entries (length (base (q .place))) (q .place) ∙ ap place-entries (base-first (q .place))))
+      ∙ rw add-one (ap (λ (l : List Entry). (0, q .local) ∷ l) (take-map elem-entry (length (base (q .place))) (q .place) ∙ ap place-entries (base-first (q .place))))
 
   -- an unfold's items are among the place's
   pub unfold-short : {n : ℕ} → n ≡ length (base (q .place)) → (n + 1 ≤ length ops) × (n + 1 ≤ length args)

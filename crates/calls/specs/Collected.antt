@@ -1,27 +1,22 @@
 -- Demand 2 of the three collecting calls: the statements in the lent buffer lead from the first state to the second, and 6 and 7 are given
 -- exactly at the first clash of the two trees. n: the length of the lent buffer.
-use mathlib.Core.Path.{_≡_, refl, sym, _∙_, ap}
+use mathlib.Core.Path.{_≡_, refl, _∙_, ap}
 use mathlib.Core.Logic.{_↔_}
-use mathlib.Core.Bool.{Bool, true, false}
-use mathlib.Core.List.{List, [], _∷_, map}
-use mathlib.Core.Option.{Option, none, some}
-use Prim.Native.Nat.{ℕ, zero, suc}
+use mathlib.Core.List.{List, map}
+use Prim.Native.Nat.{ℕ}
 use native.Mathlib.Omega.{arith}
 use lib.ListN.{length}
-use lib.Dec.{eqb, ltb, leb}
-use Rattle.model.specs.Answer.{Answer, refused, done, _>>=_, require}
-use Rattle.model.specs.Types.{types-ok}
-use Rattle.model.specs.Tree.{Forest, leaves}
-use Rattle.model.specs.State.{State, decode, locals-ok}
+use lib.Dec.{ltb}
+use Rattle.model.specs.Answer.{refused}
+use Rattle.model.specs.State.{State}
 use Rattle.model.specs.Place.{At}
-use Rattle.model.specs.Walk.{carries-at}
-use Rattle.model.specs.Collect.{collects, unfoldss, folds-at-ret, bares, first-clashes, returned-at}
+use Rattle.model.specs.Collect.{collects, unfoldss, folds-at-ret}
 use Rattle.model.specs.Frame.{mark}
 use Rattle.model.specs.Rounds.{elem}
 use Rattle.model.specs.Record.{entries, statement-record, writable, lent}
 use Rattle.model.specs.Calls.{typed, taken, written, call-collect, call-unfolds, call-folds}
 use Rattle.model.specs.Promised.{One-of, statements-in, Collect-Promise, Unfolds-Promise, Folds-Promise, Clashes, Bare}
-use Rattle.base.specs.Tests.{split, split-option, clash}
+use Rattle.base.specs.Tests.{split, clash}
 use Rattle.base.specs.Answer.{Good, good-done, good-bind, good-self, good-require, split-answer}
 use Rattle.laws.specs.Sound.{types-sound}
 use Rattle.laws.specs.Carried.{collects-lead, unfoldss-lead}

@@ -1,21 +1,19 @@
 -- Demand 2 of the call `join`: what holds of the state and the flag that it gives.
-use mathlib.Core.Path.{_≡_, refl, sym, _∙_}
+use mathlib.Core.Path.{_≡_, _∙_}
 use mathlib.Core.Logic.{_↔_, _≢_}
 use mathlib.Core.Bool.{Bool, true, false}
 use mathlib.Core.List.{List}
 use mathlib.Core.Option.{some}
 use Prim.Native.Nat.{ℕ, _≤_}
-use lib.Dec.{leb}
 use borrow.Author.Tests.{le-leb}
-use Rattle.model.specs.Answer.{done, _>>=_}
+use Rattle.model.specs.Answer.{done}
 use Rattle.model.specs.Tree.{Forest, sizes, joins, flagss}
 use Rattle.model.specs.State.{State, most, encode, decode}
 use Rattle.model.specs.Walk.{fitting}
 use Rattle.model.specs.Calls.{typed, taken, call-join}
 use Rattle.model.specs.Promised.{Join-Promise}
-use Rattle.base.specs.Answer.{Good, good-done, good-bind, good-at}
+use Rattle.base.specs.Answer.{Good, good-done, good-bind}
 use Rattle.base.specs.Order.{above-first, above-second}
-use Rattle.laws.specs.Typing.{fits-join}
 use Rattle.laws.specs.Join.{joins-self}
 use Rattle.laws.specs.Order.{states}
 use Rattle.laws.specs.Flags.{flags1-changed, flags2-changed, flags1-again, flagss-still}

@@ -10,8 +10,8 @@ use Rattle.model.specs.Answer.{Answer, refused}
 use Rattle.model.specs.Types.{types-ok}
 use Rattle.model.specs.Tree.{Forest, joins}
 use Rattle.model.specs.State.{State, decode, locals-ok}
-use Rattle.model.specs.Place.{Spot, Verb, Fold, Unfold, At, used-ok}
-use Rattle.model.specs.Collect.{collects, unfoldss, folds-at-ret}
+use Rattle.model.specs.Place.{Spot, Fold, Unfold, At, used-ok}
+use Rattle.model.specs.Collect.{unfoldss, folds-at-ret}
 use Rattle.model.specs.Frame.{mark}
 use Rattle.model.specs.Rounds.{elem}
 use Rattle.model.specs.Record.{entries, writable}
@@ -19,7 +19,7 @@ use Rattle.model.specs.Calls.{typed, taken, placed, spot-of, statement-ok, stat
 use Rattle.model.specs.Promised.{One-of, use-numbers, unfold-numbers, join-numbers, collect-numbers, unfolds-numbers, folds-numbers}
 use Rattle.laws.specs.Places.{used-limits}
 use Rattle.laws.specs.Clash.{unfoldss-refused}
-use Rattle.laws.specs.Refusals.{Only, only-refused, only-done, only-bind, only-require, only-more, only-of, walking, carrying, projection-refusals, downcasting-refusals, carry-at-refusals, fold-refusals, fitting-refusals, collects-refusals}
+use Rattle.laws.specs.Refusals.{Only, only-refused, only-done, only-bind, only-require, only-more, only-of, projection-refusals, downcasting-refusals, carry-at-refusals, fold-refusals, fitting-refusals, collects-refusals}
 use Rattle.calls.specs.Tested.{decode-valid}
 
 -- by cases on what may be there

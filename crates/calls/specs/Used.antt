@@ -1,18 +1,18 @@
 -- Demand 2 of the call `projection`: the same call once more records nothing and changes nothing, and what is recorded, carried out on the
 -- state before, gives the state after.
-use mathlib.Core.Path.{_≡_, refl, sym, _∙_, ap}
-use mathlib.Core.Bool.{true, false, cond}
-use mathlib.Core.List.{List, [], _∷_, map}
+use mathlib.Core.Path.{_≡_, _∙_, ap}
+use mathlib.Core.Bool.{true, false}
+use mathlib.Core.List.{List, [], map}
 use mathlib.Core.Option.{some}
 use Prim.Native.Nat.{ℕ, zero, suc, _≤_}
 use lib.ListN.{length, take}
 use borrow.Author.Tests.{le-leb}
-use Rattle.model.specs.Answer.{Answer, refused, done, _>>=_}
+use Rattle.model.specs.Answer.{done, _>>=_}
 use Rattle.model.specs.Tree.{Tree, Forest, nil, more, sizes, unfolded}
 use Rattle.model.specs.State.{State, most, encode, decode}
 use Rattle.model.specs.Place.{Place, Spot, Verb, Fold, Unfold, At, base, used-ok}
 use Rattle.model.specs.Walk.{carries-at, nth, walk, pick, changed, reached, project, project-at, carry-at, fitting, projection}
-use Rattle.model.specs.Calls.{typed, taken, placed, spot-of, Recorded, nothing, fold, unfold-at, recorded-verb, recorded-as, statement-ok, statement-at, call-projection, call-carry}
+use Rattle.model.specs.Calls.{typed, taken, placed, spot-of, Recorded, nothing, recorded-verb, recorded-as, statement-ok, statement-at, call-projection, call-carry}
 use Rattle.model.specs.Replay.{Quiet}
 use Rattle.model.specs.Promised.{Use-Promise}
 use Rattle.base.specs.Tests.{split, clash}

@@ -1,9 +1,9 @@
 -- What the calls promise beside their answers follows from these. n: the length of the lent buffer.
-use mathlib.Core.Path.{_≡_, refl, sym, _∙_}
+use mathlib.Core.Path.{_≡_}
 use mathlib.Core.Logic.{_↔_}
-use mathlib.Core.List.{List, [], _∷_}
+use mathlib.Core.List.{List}
 use Prim.Native.Nat.{ℕ}
-use Rattle.model.specs.Answer.{Answer, refused, done}
+use Rattle.model.specs.Answer.{Answer, refused}
 use Rattle.model.specs.Record.{lent}
 use Rattle.model.specs.Calls.{call-collect, call-unfolds, call-folds}
 use Rattle.model.specs.Promised.{One-of, Collect-Promise, Unfolds-Promise, Folds-Promise}

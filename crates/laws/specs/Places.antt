@@ -153,14 +153,16 @@ pub unfold-within : (locals : ℕ) (q : Spot) → unfold-ok locals q ≡ true �
 unfolding unfold-ok
 unfold-within locals q e = let s = spot-limits 63 locals q e in (s .0, s .2)
 
--- what a place used may record passes the test of its statement: a fold of the place, an unfold of the walked place without its last element
+-- what a place used may record passes the test of its statement
 module _ (locals : ℕ) (q : Spot) (e : used-ok locals q ≡ true) where
+  -- a fold of the place
   pub used-fold : fold-ok locals q ≡ true
   unfolding fold-ok spot-ok
   used-fold =
       let u = used-limits locals q e in
       and-both (and-both (and-both (lt-ltb (q .local) locals (u .known)) (le-leb (length (q .place)) 128 (u .short))) (le-leb (steps (q .place)) 64 (omega (arith, u .near)))) (u .plain)
 
+  -- an unfold of the walked place without its last element
   pub used-unfold : unfold-ok locals (record { local = q .local; place = base (q .place) }) ≡ true
   unfolding unfold-ok spot-ok
   used-unfold =

@@ -179,10 +179,8 @@ module _ (Γ : List ℕ) where
 
   -- the same within 512 nodes
   pub downcasting-refusals : (q : Spot) (v : ℕ) (E : Forest) → Only running (downcasting Γ q v E)
-  unfolding downcasting cast-at elem
-  downcasting-refusals q v E = only-bind
-      (nth-only running refl (walk-only running refl refl Γ (enter-only running refl refl Γ (downcast v)) (q .place)) (q .local) E)
-      (λ D. only-more refl (fitting-refusals D))
+  unfolding downcasting elem
+  downcasting-refusals q v E = only-bind (only-more refl (cast-refusals q v E)) (λ D. only-more refl (fitting-refusals D))
 
   -- the type of a place that is matched on: an enum's
   pub enum-kind : (q : Spot) (E : Forest) → Good (λ t. kind Γ t ≡ 7) (enum-at Γ q E)

@@ -5,7 +5,7 @@ use mathlib.Core.List.{List, [], _∷_, map}
 use Prim.Native.Nat.{ℕ}
 use Rattle.model.specs.Types.{types-ok}
 use Rattle.model.specs.Place.{deref, field, downcast}
-use Rattle.model.proofs.Rows.{F, S, T, *, V0, V1, Shape, Input, join-of, use-in, from-to, at-return, Stated, gives, refuses, fold-1, unfold-1, yes, no, Row, row, computed-row, stated-row, computed-clash, stated-clash}
+use Rattle.model.proofs.Rows.{F, S, T, *, V0, V1, Input, join-of, use-in, from-to, at-return, Stated, gives, refuses, fold-1, unfold-1, yes, no, Row, row, computed-row, stated-row, computed-clash, stated-clash}
 use Rattle.model.proofs.Computed.{computed}
 
 -- 0 opaque, 1 struct(0,0), 2 mutable reference to 1, 3 variant value 0 no field, 4 variant value 1 (0), 5 enum(3,4), 6 plain

@@ -8,7 +8,7 @@ use mathlib.Core.List.{List, [], _∷_, map}
 use mathlib.Core.Option.{some}
 use Prim.Native.Nat.{ℕ, suc}
 use lib.ListN.{take}
-use Rattle.model.specs.Answer.{Answer, done}
+use Rattle.model.specs.Answer.{done}
 use Rattle.model.specs.Types.{types-ok}
 use Rattle.model.specs.Tree.{Forest, joins, leaves}
 use Rattle.model.specs.Source.{firsts, seconds, modifieds}

@@ -1,7 +1,7 @@
 -- Two lists read as one list of pairs, and zeros behind a list: what a state record and a statement record share.
 use mathlib.Core.Path.{_≡_, refl, sym, ap, ap₂, _∙_}
 use mathlib.Core.Bool.{true}
-use mathlib.Core.List.{List, [], _∷_, _++_, map-append}
+use mathlib.Core.List.{List, [], _∷_, _++_, map, map-append}
 use Prim.Native.Nat.{ℕ, zero, suc, _-_, _≤_}
 use native.Mathlib.Nat.{suc-inj, suc-ne-zero}
 use native.Mathlib.Omega.{arith}
@@ -12,6 +12,14 @@ use borrow.Author.Tests.{eqb-true}
 use Rattle.model.specs.State.{Code, most, padded, pairs, zeros}
 use Rattle.base.specs.Tests.{and-left, and-right}
 use Rattle.records.specs.Here.{firsts, seconds}
+
+-- LISTS
+
+-- the first of what a function makes of a list are made of its first
+pub take-map : {A B : Type 0} (f : A → B) (n : ℕ) (l : List A) → take n (map f l) ≡ map f (take n l)
+take-map f zero l = refl
+take-map f (suc n) [] = refl
+take-map f (suc n) (x ∷ l) = ap (λ r. f x ∷ r) (take-map f n l)
 
 -- PAIRS
 

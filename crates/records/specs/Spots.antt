@@ -14,6 +14,7 @@ use Rattle.model.specs.Record.{Entry, elem-entry}
 use Rattle.model.specs.Calls.{elems-of, spot-of}
 use Rattle.base.specs.Tests.{split, split-option, and-left, and-right}
 use Rattle.records.specs.Here.{firsts, seconds}
+use Rattle.records.specs.Pairs.{take-map}
 use Rattle.records.specs.Recorded.{elem-back}
 
 -- a place's items
@@ -110,31 +111,13 @@ spot-items (o ∷ ops) (a ∷ args) q e =
 
 -- THE FIRST ITEMS
 
--- the first entries of a place are its first elements'
-pub take-entries : (n : ℕ) (p : Place) → take n (place-entries p) ≡ place-entries (take n p)
-take-entries zero p = refl
-take-entries (suc n) [] = refl
-take-entries (suc n) (e ∷ p) = ap (λ (l : List Entry). elem-entry e ∷ l) (take-entries n p)
-
--- the first items are those of the first entries
-take-firsts : (n : ℕ) (es : List Entry) → take n (firsts es) ≡ firsts (take n es)
-take-firsts zero es = refl
-take-firsts (suc n) [] = refl
-take-firsts (suc n) (e ∷ es) = ap (λ (l : List ℕ). e .0 ∷ l) (take-firsts n es)
-
--- their args too
-take-seconds : (n : ℕ) (es : List Entry) → take n (seconds es) ≡ seconds (take n es)
-take-seconds zero es = refl
-take-seconds (suc n) [] = refl
-take-seconds (suc n) (e ∷ es) = ap (λ (l : List ℕ). e .1 ∷ l) (take-seconds n es)
-
 -- the root and the items of n elements are the place of the first n elements
 pub spot-front : (ops args : List ℕ) (q : Spot) (n : ℕ) → spot-of ops args ≡ some q
     → spot-of (take (suc n) ops) (take (suc n) args) ≡ some (record { local = q .local; place = take n (q .place) })
 spot-front ops args q n e =
     let I = spot-items ops args q e in
     let r : Spot = record { local = q .local; place = take n (q .place) } in
-    let t : take (suc n) (spot-entries q) ≡ spot-entries r = ap (λ (l : List Entry). (0, q .local) ∷ l) (take-entries n (q .place)) in
-    let o : take (suc n) ops ≡ firsts (spot-entries r) = ap (take (suc n)) (I .ops-are) ∙ take-firsts (suc n) (spot-entries q) ∙ ap firsts t in
-    let a : take (suc n) args ≡ seconds (spot-entries r) = ap (take (suc n)) (I .args-are) ∙ take-seconds (suc n) (spot-entries q) ∙ ap seconds t in
+    let t : take (suc n) (spot-entries q) ≡ spot-entries r = ap (λ (l : List Entry). (0, q .local) ∷ l) (take-map elem-entry n (q .place)) in
+    let o : take (suc n) ops ≡ firsts (spot-entries r) = ap (take (suc n)) (I .ops-are) ∙ take-map (λ (c : Entry). c .0) (suc n) (spot-entries q) ∙ ap firsts t in
+    let a : take (suc n) args ≡ seconds (spot-entries r) = ap (take (suc n)) (I .args-are) ∙ take-map (λ (c : Entry). c .1) (suc n) (spot-entries q) ∙ ap seconds t in
     ap₂ spot-of o a ∙ spot-back r
