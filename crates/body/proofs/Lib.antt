@@ -14,7 +14,7 @@ pub mod Placed
 -- variants, and those that are left
 pub mod Variants
 -- what an arm, or the otherwise target, answers
-pub mod Tries
+pub mod Trying
 -- the targets of a match, one by one
 pub mod Plans
 -- the block of a match

@@ -19,9 +19,7 @@ use Rattle.model.specs.Body.{exits-of}
 use Rattle.base.specs.Tests.{split, clash}
 use Rattle.base.specs.Answer.{then-done}
 use Rattle.base.specs.Kinds.{kind-known}
-use Rattle.records.specs.Here.{Holds}
 use Rattle.graph.specs.Enders.{target-last}
-use Rattle.state.specs.Value.{value}
 use Rattle.state.specs.declared.nodes.State.{State}
 use Rattle.state.proofs.Fields.{ready-typed}
 use Rattle.blocks.specs.Points.{item-of}
@@ -30,7 +28,8 @@ use Rattle.env.specs.Answers.{enum-of}
 use Rattle.env.specs.declared.project.Enum.the-variants.{Of, Refused as Other}
 use Rattle.blocks.proofs.Spots.{formed-accepted, block-stop}
 use Rattle.blocks.proofs.Points.{Matched, matched-holds}
-use Rattle.body.specs.Given.{Accepted, Stated}
+use Rattle.body.specs.declared.arms.Subject.{Subject}
+use Rattle.body.specs.Given.{Accepted, Stated, In-each}
 use Rattle.body.specs.Arms.{Sought}
 use Rattle.body.specs.Tries.{Matching, Blank}
 use Rattle.body.proofs.Variants.{count-few}
@@ -68,18 +67,18 @@ enum-kind Γ q E {t} e =
     let u = type (reached Γ (q .place) (pick (q .local) E)) in
     split (eqb (kind Γ u) 7) (λ k. let z : u ≡ t = cc in rw z at (eqb-true (kind Γ u) 7 k)) (λ k. clash (cc))
 
-module _ {Γ os fn : List ℕ} (A : Accepted Γ os fn) {b read t : ℕ} {s : State} (l : b < nblocks fn) (M : Matching Γ fn b read t s) where
+module _ {Γ os fn : List ℕ} (A : Accepted Γ os fn) {b : ℕ} {m : Subject} {s : State} (l : b < nblocks fn) (M : Matching Γ fn b m s) where
   -- the read
-  read-in : Matched fn b read
+  read-in : Matched fn b (m .read)
   read-in = matched-holds (A .formed) l (M .is)
 
   -- and its enum
-  pub match-sought : Stated Γ (local-types fn) s → Sought Γ fn read t
+  pub match-sought : Stated Γ (local-types fn) s → Sought Γ fn m
   match-sought S =
       let k = enum-kind Γ _ (S .state) (M .enum (S .state) (S .holds)) in
-      record { item = omega (arith, read-in .high, block-stop (A .formed) l); used = read-in .uses; known = kind-known Γ t (λ z. omega arith); enum = k }
+      record { item = omega (arith, read-in .high, block-stop (A .formed) l); used = read-in .uses; known = kind-known Γ (m .typ) (λ z. omega arith); enum = k }
 
-  module _ {i : ℕ} (m : start fn b ≤ i) (n : i < stop fn b) where
+  module _ {i : ℕ} (low : start fn b ≤ i) (high : i < stop fn b) where
     -- an item of the block
     pub match-item : i < nitems fn
     match-item = omega (arith, block-stop (A .formed) l)
@@ -88,7 +87,7 @@ module _ {Γ os fn : List ℕ} (A : Accepted Γ os fn) {b read t : ℕ} {s : Sta
       -- a target that is no arm's is the last
       pub match-last : op fn (i - 1) ≢ 9 → suc i ≡ stop fn b
       unfolding is-arm
-      match-last a = target-last (formed-accepted (A .formed)) (record { block = l; low = m; high = n }) e (ne-eqb (op fn (i - 1)) 9 a)
+      match-last a = target-last (formed-accepted (A .formed)) (record { block = l; low = low; high = high }) e (ne-eqb (op fn (i - 1)) 9 a)
 
       -- something stands before a target
       pub match-behind : 0 < i
@@ -97,12 +96,12 @@ module _ {Γ os fn : List ℕ} (A : Accepted Γ os fn) {b read t : ℕ} {s : Sta
         | no h ↦
             let z : i - 1 ≡ i = omega arith in
             let w = match-last (rw (z, e) (λ d. omega arith)) in
-            let y : read ≡ i = omega (arith, read-in .high) in
+            let y : m .read ≡ i = omega (arith, read-in .high) in
             absurd (omega (arith, rw y at (read-in .code)))
       ]
 
   -- the targets are left to try
   pub match-first : {from e : ℕ} {taken : List ℕ} → from ≡ start fn b → e ≡ stop fn b → Stated Γ (local-types fn) s → Blank taken
-      → (E : Forest) → Holds Γ (local-types fn) (value s) E → Leads Γ fn read t E (exits-of Γ fn (matched fn b) (targets fn b) E) (trying Γ fn read t E e from taken)
-  match-first {taken} y z S B E h = rw (y, z) (leads-same (trying-first Γ fn read t E b taken l (M .is) (M .enum E h)
+      → In-each Γ fn s (λ E. Leads Γ fn m E (exits-of Γ fn (matched fn b) (targets fn b) E) (trying Γ fn m E e from taken))
+  match-first {taken} y z S B E h = rw (y, z) (leads-same (trying-first Γ fn m E b taken l (M .is) (M .enum E h)
       (λ v k. B .zero v (omega (arith, count-few (ready-typed (A .ready)) (match-sought S .known))))))

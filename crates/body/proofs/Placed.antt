@@ -1,7 +1,7 @@
 -- The place before an item, used: what its projection asks, and that the code leaves what the item's run says.
 use mathlib.Core.Path.{_≡_, refl, sym, ap, _∙_}
 use mathlib.Core.Logic.{_≢_}
-use mathlib.Core.Bool.{Bool, true, false}
+use mathlib.Core.Bool.{Bool, true}
 use mathlib.Core.List.{List, _∷_, append-nil}
 use mathlib.Core.Option.{some}
 use Prim.Native.Nat.{ℕ, suc, _+_, _≤_, _<_}
@@ -26,13 +26,13 @@ use Rattle.graph.specs.Used.{place-used}
 use Rattle.mir.specs.Parts.{ops-part, args-part}
 use Rattle.state.specs.Value.{value}
 use Rattle.state.specs.declared.nodes.State.{State}
-use Rattle.statements.specs.Kept.{Counted, Puts}
+use Rattle.statements.specs.Kept.{Counted}
 use Rattle.statements.specs.declared.Out.{Out}
 use Rattle.env.specs.Answers.{Projects}
 use Rattle.env.specs.declared.project.Projected.the-variants.{Nothing, Fold, Unfold, Refused}
 use Rattle.env.specs.declared.project.Usage.{Usage}
 use Rattle.body.specs.Given.{Accepted}
-use Rattle.body.specs.Uses.{point, uses, Tells, Passes}
+use Rattle.body.specs.Uses.{point, uses, Says, Tells, Passes}
 use Rattle.body.proofs.Places.{place-spot}
 use Rattle.body.proofs.Runs.{Run, behind, uses-pass, uses-none}
 use Rattle.body.proofs.Told.{answer-refused, answer-nothing, answer-fold, answer-unfold, fold-entries, unfold-entries, unfold-short}
@@ -75,44 +75,44 @@ module _ {Γ os fn : List ℕ} (A : Accepted Γ os fn) (i : ℕ) (l : i < nitems
           let (w, d, (k, m)) = answer-unfold Γ (spot-before fn i) E (sym (projects .answer) ∙ e) in
           unfold-short ops args (spot-before fn i) here m
 
-      module _ (entry recording : Bool) {out : List ℕ} {o : Out} where
+      module _ (entry : Bool) {out : List ℕ} {o : Out} where
         -- a refusal, whatever state it leaves
         pub placed-refused : {n : ℕ} {s′ : State} → r .answer ≡ Refused n
-            → Passes Γ fn recording out o out (uses Γ fn entry 1 i E) (record { state = s′; out = o; refusal = n })
+            → Passes Γ fn out o out (uses Γ fn entry 1 i E) (record { state = s′; out = o; refusal = n })
         placed-refused {n} e =
             let d = answer-refused Γ (spot-before fn i) E (sym (projects .answer) ∙ e) in
             refused-passes n (one-run entry E ∙ ap (at-point entry) d) (refused-some h d) refl refl
 
         -- a state, and lines
         placed-done : {out′ : List ℕ} {o′ : Out} {w : Forest × List At} → projection Γ (spot-before fn i) E ≡ done w
-            → Tells fn recording out o out′ o′ (mark (point fn entry i) (w .1))
-            → Passes Γ fn recording out o out′ (uses Γ fn entry 1 i E) (record { state = r .state; out = o′; refusal = 0 })
+            → Tells fn out o out′ o′ (mark (point fn entry i) (w .1))
+            → Passes Γ fn out o out′ (uses Γ fn entry 1 i E) (record { state = r .state; out = o′; refusal = 0 })
         placed-done {w = w} d T =
             done-passes (one-run entry E ∙ ap (at-point entry) d) (record { fine = refl; state = rw t at (projects .moved w d); lines = T })
 
         -- nothing to record
         pub placed-nothing : r .answer ≡ Nothing → Counted out o
-            → Passes Γ fn recording out o out (uses Γ fn entry 1 i E) (record { state = r .state; out = o; refusal = 0 })
+            → Passes Γ fn out o out (uses Γ fn entry 1 i E) (record { state = r .state; out = o; refusal = 0 })
         unfolding mark
         placed-nothing e C =
             let (w, d, k) = answer-nothing Γ (spot-before fn i) E (sym (projects .answer) ∙ e) in
-            placed-done d (rw k (tells-none fn recording C))
+            placed-done d (rw k (tells-none fn C))
 
-        module _ {out′ : List ℕ} {o′ : Out} {at : Entry} (a : at ≡ point-entry (entry-point fn) (point fn entry i)) (silent : recording ≡ false → (out′ ≡ out) × (o′ ≡ o)) where
+        module _ {out′ : List ℕ} {o′ : Out} {at : Entry} (a : at ≡ point-entry (entry-point fn) (point fn entry i)) where
           -- a fold
           pub placed-fold : r .answer ≡ Fold
-              → (recording ≡ true → Puts 1 out o out′ o′ (at ∷ (15, 0) ∷ pairs (take (length ops) ops) (take (length ops) args)))
-              → Passes Γ fn recording out o out′ (uses Γ fn entry 1 i E) (record { state = r .state; out = o′; refusal = 0 })
-          placed-fold e told =
+              → Says out o out′ o′ (at ∷ (15, 0) ∷ pairs (take (length ops) ops) (take (length ops) args))
+              → Passes Γ fn out o out′ (uses Γ fn entry 1 i E) (record { state = r .state; out = o′; refusal = 0 })
+          placed-fold e S =
               let (w, d, k) = answer-fold Γ (spot-before fn i) E (sym (projects .answer) ∙ e) in
               let (m, n) = fold-entries ops args (spot-before fn i) here (entry-point fn) (point fn entry i) k in
-              placed-done d (tells-one (mark (point fn entry i) (w .1)) m (n ∙ rw a) told silent)
+              placed-done d (tells-one (mark (point fn entry i) (w .1)) m (n ∙ rw a) S)
 
           -- an unfold
           pub placed-unfold : {n : ℕ} → r .answer ≡ Unfold n
-              → (recording ≡ true → Puts 1 out o out′ o′ (at ∷ (16, 0) ∷ pairs (take (n + 1) ops) (take (n + 1) args)))
-              → Passes Γ fn recording out o out′ (uses Γ fn entry 1 i E) (record { state = r .state; out = o′; refusal = 0 })
-          placed-unfold e told =
+              → Says out o out′ o′ (at ∷ (16, 0) ∷ pairs (take (n + 1) ops) (take (n + 1) args))
+              → Passes Γ fn out o out′ (uses Γ fn entry 1 i E) (record { state = r .state; out = o′; refusal = 0 })
+          placed-unfold e S =
               let (w, d, (k, b)) = answer-unfold Γ (spot-before fn i) E (sym (projects .answer) ∙ e) in
               let (m, n) = unfold-entries ops args (spot-before fn i) here (entry-point fn) (point fn entry i) k b in
-              placed-done d (tells-one (mark (point fn entry i) (w .1)) m (n ∙ rw a) told silent)
+              placed-done d (tells-one (mark (point fn entry i) (w .1)) m (n ∙ rw a) S)

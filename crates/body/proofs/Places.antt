@@ -6,6 +6,7 @@ use mathlib.Core.Option.{some}
 use Prim.Native.Nat.{ℕ, _≤_, _<_}
 use native.Mathlib.Omega.{arith}
 use lib.ListN.{length}
+use Rattle.model.specs.Tree.{Forest}
 use Rattle.model.specs.State.{locals-ok}
 use Rattle.model.specs.Place.{used-ok}
 use Rattle.model.specs.Function.{nlocals, nitems, local-types, function-ok}
@@ -13,8 +14,10 @@ use Rattle.model.specs.Block.{root-before, spot-before, uses-place}
 use Rattle.model.specs.Calls.{spot-of}
 use Rattle.base.specs.Tests.{and-left, and-right}
 use Rattle.base.specs.Function.{function-facts, length-local-types}
+use Rattle.records.specs.Here.{Holds}
 use Rattle.graph.specs.Used.{place-used}
 use Rattle.mir.specs.Parts.{ops-part, args-part}
+use Rattle.state.specs.Value.{value}
 use Rattle.state.specs.declared.nodes.State.{State}
 use Rattle.blocks.proofs.Spots.{used-in, used-read}
 use Rattle.env.specs.Given.{Given}
@@ -37,6 +40,10 @@ module _ {Γ os fn : List ℕ} (A : Accepted Γ os fn) {read : ℕ} (l : read < 
 
     pub place-locals : locals-ok Γ locals ≡ true
     place-locals = rw el (locals-pass Γ fn (A .function))
+
+    -- a state of the function's locals
+    pub place-holds : {s : State} {E : Forest} → Holds Γ (local-types fn) (value s) E → Holds Γ locals (value s) E
+    place-holds h = rw el h
 
     -- which passes
     pub place-given : {s : State} → Stated Γ (local-types fn) s → Given Γ locals s ops args (used-ok (length locals))

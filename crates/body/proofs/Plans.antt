@@ -24,10 +24,12 @@ use Rattle.base.specs.Answer.{split-answer}
 use Rattle.base.specs.Collected.{collect-zero, collect-pass, collect-fail}
 use Rattle.blocks.specs.Points.{matched-read}
 use Rattle.blocks.proofs.Points.{matched-place}
+use Rattle.body.specs.declared.arms.Subject.{Subject}
+use Rattle.body.specs.declared.arms.Rest.{Rest}
 use Rattle.body.specs.declared.arms.Plan.{Plan}
 use Rattle.body.specs.declared.arms.Plan.the-variants.{Plain, Match, Refused}
 use Rattle.body.specs.Arms.{rest, opens, Sought, Chosen, Planned}
-use Rattle.body.specs.Tries.{free, arm, Taken, Ended}
+use Rattle.body.specs.Tries.{free, arm, Taken, last-open, Ended}
 use Rattle.body.proofs.Variants.{free-all}
 
 -- THE TARGETS from item i on, before t
@@ -64,31 +66,31 @@ module _ (fn : List ℕ) where
 -- WHAT IS LEFT TO TRY
 
 -- a is refused as b is, and has exits that leave as a match says if b has
-pub record Leads (Γ fn : List ℕ) (read t : ℕ) (E : Forest) (a b : Answer (List (Exit Forest))) : Type 0 where
+pub record Leads (Γ fn : List ℕ) (m : Subject) (E : Forest) (a b : Answer (List (Exit Forest))) : Type 0 where
   pub refuses : (n : ℕ) → b ≡ refused n → a ≡ refused n
-  pub leads : (l o : ℕ) (ys : List (Exit Forest)) → b ≡ done ys → Chosen Γ fn (Match read t l o) E ys
-      → (xs : List (Exit Forest)) × (a ≡ done xs) × Chosen Γ fn (Match read t l o) E xs
+  pub leads : (w : Rest) (ys : List (Exit Forest)) → b ≡ done ys → Chosen Γ fn (Match m w) E ys
+      → (xs : List (Exit Forest)) × (a ≡ done xs) × Chosen Γ fn (Match m w) E xs
 
-module _ {Γ fn : List ℕ} {read t : ℕ} {E : Forest} where
+module _ {Γ fn : List ℕ} {m : Subject} {E : Forest} where
   -- what is the same
-  pub leads-same : {a b : Answer (List (Exit Forest))} → a ≡ b → Leads Γ fn read t E a b
-  leads-same e = record { refuses = λ n d. e ∙ d; leads = λ l o ys d c. (ys, e ∙ d, c) }
+  pub leads-same : {a b : Answer (List (Exit Forest))} → a ≡ b → Leads Γ fn m E a b
+  leads-same e = record { refuses = λ n d. e ∙ d; leads = λ w ys d c. (ys, e ∙ d, c) }
 
   -- one after the other
-  pub leads-on : {a b c : Answer (List (Exit Forest))} → Leads Γ fn read t E a b → Leads Γ fn read t E b c → Leads Γ fn read t E a c
+  pub leads-on : {a b c : Answer (List (Exit Forest))} → Leads Γ fn m E a b → Leads Γ fn m E b c → Leads Γ fn m E a c
   leads-on f g = record {
     refuses = λ n d. f .refuses n (g .refuses n d);
-    leads = λ l o ys d c. let (xs, e, k) = g .leads l o ys d c in f .leads l o xs e k;
+    leads = λ w ys d c. let (xs, e, k) = g .leads w ys d c in f .leads w xs e k;
   }
 
 -- a block that matches on a read has a match
 has-match : (fn : List ℕ) (b : ℕ) {read : ℕ} → matched-read fn b ≡ some read → matched fn b ≡ some (spot-before fn read)
 has-match fn b m = matched-place fn b ∙ ap (Option·map (spot-before fn)) m
 
-module _ (Γ fn : List ℕ) (read t : ℕ) (E : Forest) where
+module _ (Γ fn : List ℕ) (m : Subject) (E : Forest) where
   -- the targets from item i on, before e, with the variants that are not taken
   pub trying : ℕ → ℕ → List ℕ → Answer (List (Exit Forest))
-  trying e i taken = match-targets Γ fn (spot-before fn read) E (aims fn e i) (free Γ t taken)
+  trying e i taken = match-targets Γ fn (spot-before fn (m .read)) E (aims fn e i) (free Γ (m .typ) taken)
 
   -- the exit by the target item i
   abbrev exit : ℕ → Forest → Exit Forest
@@ -96,12 +98,12 @@ module _ (Γ fn : List ℕ) (read t : ℕ) (E : Forest) where
 
   -- THE FIRST
 
-  pub trying-first : (b : ℕ) (taken : List ℕ) → b < nblocks fn → matched-read fn b ≡ some read → enum-at Γ (spot-before fn read) E ≡ done t
-      → ((v : ℕ) → v < count Γ t → word taken v ≡ 0) → exits-of Γ fn (matched fn b) (targets fn b) E ≡ trying (stop fn b) (start fn b) taken
+  pub trying-first : (b : ℕ) (taken : List ℕ) → b < nblocks fn → matched-read fn b ≡ some (m .read) → enum-at Γ (spot-before fn (m .read)) E ≡ done (m .typ)
+      → ((v : ℕ) → v < count Γ (m .typ) → word taken v ≡ 0) → exits-of Γ fn (matched fn b) (targets fn b) E ≡ trying (stop fn b) (start fn b) taken
   unfolding exits-of targets trying aims
-  trying-first b taken l m e z =
-      let q = has-match fn b m in
-      let f = free-all Γ t taken z in
+  trying-first b taken l k e z =
+      let q = has-match fn b k in
+      let f = free-all Γ (m .typ) taken z in
       let w = lt-ltb b (nblocks fn) l in
       cc
 
@@ -115,17 +117,17 @@ module _ (Γ fn : List ℕ) (read t : ℕ) (E : Forest) where
 
     module _ (k : op fn i ≡ 10) where
       -- a target that opens a variant, or none
-      trying-choice : (c : Choice) (D : Forest) → choice fn i (free Γ t taken) ≡ done c → open-variant Γ fn (spot-before fn read) (c .opens) E ≡ done D
-          → trying e i taken ≡ (match-targets Γ fn (spot-before fn read) E (aims fn e (suc i)) (c .remain) >>= λ xs. done (exit i D ∷ xs))
+      trying-choice : (c : Choice) (D : Forest) → choice fn i (free Γ (m .typ) taken) ≡ done c → open-variant Γ fn (spot-before fn (m .read)) (c .opens) E ≡ done D
+          → trying e i taken ≡ (match-targets Γ fn (spot-before fn (m .read)) E (aims fn e (suc i)) (c .remain) >>= λ xs. done (exit i D ∷ xs))
       unfolding trying match-targets
       trying-choice c D f g = rw (aims-target fn e i l k, f, g)
 
       -- one that is refused
-      trying-refused : (c : Choice) (n : ℕ) → choice fn i (free Γ t taken) ≡ done c → open-variant Γ fn (spot-before fn read) (c .opens) E ≡ refused n → trying e i taken ≡ refused n
+      trying-refused : (c : Choice) (n : ℕ) → choice fn i (free Γ (m .typ) taken) ≡ done c → open-variant Γ fn (spot-before fn (m .read)) (c .opens) E ≡ refused n → trying e i taken ≡ refused n
       unfolding trying match-targets
       trying-refused c n f g = rw (aims-target fn e i l k, f, g)
 
-      trying-unknown : (n : ℕ) → choice fn i (free Γ t taken) ≡ refused n → trying e i taken ≡ refused n
+      trying-unknown : (n : ℕ) → choice fn i (free Γ (m .typ) taken) ≡ refused n → trying e i taken ≡ refused n
       unfolding trying match-targets
       trying-unknown n f = rw (aims-target fn e i l k, f)
 
@@ -135,22 +137,22 @@ module _ (Γ fn : List ℕ) (read t : ℕ) (E : Forest) where
         armed = eq-eqb (op fn (i - 1)) 9 a
 
         -- an arm that is refused
-        pub trying-denied : (n : ℕ) → arm Γ fn read (arm-value fn i) (free Γ t taken) E ≡ refused n → trying e i taken ≡ refused n
+        pub trying-denied : (n : ℕ) → arm Γ fn (m .read) (arm-value fn i) (free Γ (m .typ) taken) E ≡ refused n → trying e i taken ≡ refused n
         unfolding arm choice open-variant
-        trying-denied n d = split-option (variant-of (arm-value fn i) (free Γ t taken))
+        trying-denied n d = split-option (variant-of (arm-value fn i) (free Γ (m .typ) taken))
             (λ u. trying-unknown n (cc armed))
-            (λ v u. trying-refused (record { opens = some v; remain = without (arm-value fn i) (free Γ t taken) }) n (cc armed) (cc))
+            (λ v u. trying-refused (record { opens = some v; remain = without (arm-value fn i) (free Γ (m .typ) taken) }) n (cc armed) (cc))
 
         -- an arm that opens its variant
-        pub trying-taken : {taken′ : List ℕ} → Taken Γ fn read t i E taken taken′ → Leads Γ fn read t E (trying e i taken) (trying e (i + 1) taken′)
+        pub trying-taken : {taken′ : List ℕ} → Taken Γ fn m i E taken taken′ → Leads Γ fn m E (trying e i taken) (trying e (i + 1) taken′)
         unfolding trying choice open-variant opens
         trying-taken {taken′} T =
-            let ds = without (arm-value fn i) (free Γ t taken) in
+            let ds = without (arm-value fn i) (free Γ (m .typ) taken) in
             let z = trying-choice (record { opens = some (T .variant); remain = ds }) (T .state) (cc (armed, T .left)) (T .opens) in
-            let y : match-targets Γ fn (spot-before fn read) E (aims fn e (suc i)) ds ≡ trying e (i + 1) taken′ = rw (add-one, T .remain) in
+            let y : match-targets Γ fn (spot-before fn (m .read)) E (aims fn e (suc i)) ds ≡ trying e (i + 1) taken′ = rw (add-one, T .remain) in
             record {
               refuses = λ n d. cc;
-              leads = λ p o ys d c. (exit i (T .state) ∷ ys, cc, each-more {a = exit i (T .state)} (cc (armed, T .known, T .opens)) c);
+              leads = λ w ys d c. (exit i (T .state) ∷ ys, cc, each-more {a = exit i (T .state)} (cc (armed, T .known, T .opens)) c);
             }
 
       -- THE OTHERWISE TARGET
@@ -161,20 +163,20 @@ module _ (Γ fn : List ℕ) (read t : ℕ) (E : Forest) where
         unarmed = ne-eqb (op fn (i - 1)) 9 a
 
         -- it is refused
-        pub trying-shut : (n : ℕ) → open-variant Γ fn (spot-before fn read) (only (free Γ t taken)) E ≡ refused n → trying e i taken ≡ refused n
+        pub trying-shut : (n : ℕ) → last-open Γ fn m taken E ≡ refused n → trying e i taken ≡ refused n
         unfolding choice
-        trying-shut n d = trying-refused (record { opens = only (free Γ t taken); remain = free Γ t taken }) n (cc unarmed) d
+        trying-shut n d = trying-refused (record { opens = only (free Γ (m .typ) taken); remain = free Γ (m .typ) taken }) n (cc unarmed) d
 
         -- it is the last
-        pub trying-last : (D : Forest) → open-variant Γ fn (spot-before fn read) (only (free Γ t taken)) E ≡ done D → trying e i taken ≡ done (exit i D ∷ [])
+        pub trying-last : (D : Forest) → last-open Γ fn m taken E ≡ done D → trying e i taken ≡ done (exit i D ∷ [])
         unfolding choice match-targets
-        trying-last D d = trying-choice (record { opens = only (free Γ t taken); remain = free Γ t taken }) D (cc unarmed) d ∙ rw (aims-over fn e (suc i) (omega arith))
+        trying-last D d = trying-choice (record { opens = only (free Γ (m .typ) taken); remain = free Γ (m .typ) taken }) D (cc unarmed) d ∙ rw (aims-over fn e (suc i) (omega arith))
 
         -- and leaves as a match says
-        pub last-chosen : (p o : ℕ) (D : Forest) → rest p o ≡ only (free Γ t taken) → open-variant Γ fn (spot-before fn read) (only (free Γ t taken)) E ≡ done D
-            → Chosen Γ fn (Match read t p o) E (exit i D ∷ [])
+        pub last-chosen : (w : Rest) (D : Forest) → rest w ≡ only (free Γ (m .typ) taken) → last-open Γ fn m taken E ≡ done D
+            → Chosen Γ fn (Match m w) E (exit i D ∷ [])
         unfolding opens
-        last-chosen p o D r d = each-more {a = exit i D} (cc unarmed) each-none
+        last-chosen w D r d = each-more {a = exit i D} (cc unarmed) each-none
 
   -- past the last item
   pub trying-over : (e i : ℕ) (taken : List ℕ) → e ≤ i → trying e i taken ≡ done []
@@ -183,30 +185,30 @@ module _ (Γ fn : List ℕ) (read t : ℕ) (E : Forest) where
 
 -- THE PLAN
 
-module _ {Γ fn : List ℕ} {read t b : ℕ} {E : Forest} (m : matched-read fn b ≡ some read) where
+module _ {Γ fn : List ℕ} {m : Subject} {b : ℕ} {E : Forest} (k : matched-read fn b ≡ some (m .read)) where
   -- what is left is refused
-  pub planned-refused : {a : Answer (List (Exit Forest))} {n : ℕ} → Leads Γ fn read t E (exits-of Γ fn (matched fn b) (targets fn b) E) a → a ≡ refused n → Planned Γ fn b E (Refused n)
+  pub planned-refused : {a : Answer (List (Exit Forest))} {n : ℕ} → Leads Γ fn m E (exits-of Γ fn (matched fn b) (targets fn b) E) a → a ≡ refused n → Planned Γ fn b E (Refused n)
   planned-refused {n} L e =
       let z = L .refuses n e in
-      let w = has-match fn b m in
-      record { denied = λ k d. cc; refuses = λ k d. cc; plain = λ q. clash (cc); sound = tt; chosen = λ xs d. clash (cc) }
+      let w = has-match fn b k in
+      record { denied = λ j d. cc; refuses = λ j d. cc; plain = λ q. clash (cc); sound = tt; chosen = λ xs d. clash (cc) }
 
   -- what is left leaves as the match says
-  pub planned-match : {a : Answer (List (Exit Forest))} {l o : ℕ} {ys : List (Exit Forest)} → Leads Γ fn read t E (exits-of Γ fn (matched fn b) (targets fn b) E) a
-      → Sought Γ fn read t → a ≡ done ys → Chosen Γ fn (Match read t l o) E ys → Planned Γ fn b E (Match read t l o)
-  planned-match {l} {o} {ys} L S e c =
-      let (xs, z, k) = L .leads l o ys e c in
-      let w = has-match fn b m in
-      record { denied = λ n d. clash (cc); refuses = λ n d. clash (cc); plain = λ q. clash (cc); sound = S; chosen = λ ws d. let y : xs ≡ ws = cc in rw y at k }
+  pub planned-match : {a : Answer (List (Exit Forest))} {v : Rest} {ys : List (Exit Forest)} → Leads Γ fn m E (exits-of Γ fn (matched fn b) (targets fn b) E) a
+      → Sought Γ fn m → a ≡ done ys → Chosen Γ fn (Match m v) E ys → Planned Γ fn b E (Match m v)
+  planned-match {v} {ys} L S e c =
+      let (xs, z, h) = L .leads v ys e c in
+      let w = has-match fn b k in
+      record { denied = λ n d. clash (cc); refuses = λ n d. clash (cc); plain = λ q. clash (cc); sound = S; chosen = λ ws d. let y : xs ≡ ws = cc in rw y at h }
 
   -- the otherwise target is tried
-  pub planned-ended : {e i : ℕ} {taken : List ℕ} {p : Plan} → Leads Γ fn read t E (exits-of Γ fn (matched fn b) (targets fn b) E) (trying Γ fn read t E e i taken)
-      → Sought Γ fn read t → i < e → op fn i ≡ 10 → op fn (i - 1) ≢ 9 → suc i ≡ e → Ended Γ fn read t E taken p → Planned Γ fn b E p
-  planned-ended {e} {i} {taken} {p} L S l k a s X = split-answer (open-variant Γ fn (spot-before fn read) (only (free Γ t taken)) E)
-      (λ n d. rw (X .denied n d) (planned-refused L (trying-shut Γ fn read t E e i taken l k a s n d)))
+  pub planned-ended : {e i : ℕ} {taken : List ℕ} {p : Plan} → Leads Γ fn m E (exits-of Γ fn (matched fn b) (targets fn b) E) (trying Γ fn m E e i taken)
+      → Sought Γ fn m → i < e → op fn i ≡ 10 → op fn (i - 1) ≢ 9 → suc i ≡ e → Ended Γ fn m E taken p → Planned Γ fn b E p
+  planned-ended {e} {i} {taken} {p} L S l t a s X = split-answer (last-open Γ fn m taken E)
+      (λ n d. rw (X .denied n d) (planned-refused L (trying-shut Γ fn m E e i taken l t a s n d)))
       (λ D d.
-      let (v, o, z, r) = X .fine D d in
-      rw z (planned-match L S (trying-last Γ fn read t E e i taken l k a s D d) (last-chosen Γ fn read t E e i taken l k a s v o D r d)))
+      let (w, z, r) = X .fine D d in
+      rw z (planned-match L S (trying-last Γ fn m E e i taken l t a s D d) (last-chosen Γ fn m E e i taken l t a s w D r d)))
 
 -- without a match each target leaves with the state as it is
 unchanged : (E : Forest) (ts : List (ℕ × ℕ)) → Each {A = Exit Forest} (λ x. _≡_ {A = Answer Forest} (done E) (done (x .state))) (map (λ t. record { item = t .0; block = t .1; state = E }) ts)

@@ -19,6 +19,7 @@ use Rattle.model.specs.Body.{Left, variants-from, variants, variant-of, without
 use Rattle.base.specs.Tests.{split, clash}
 use Rattle.base.specs.Typed.{Typed, parts-inside}
 use Rattle.base.specs.Collected.{collect-pass, collect-fail, collect-back-pass, collect-back-fail, collect-same}
+use Rattle.body.specs.declared.arms.Rest.{Rest}
 use Rattle.body.specs.Arms.{rest}
 use Rattle.body.specs.Tries.{free}
 
@@ -206,12 +207,16 @@ counts-more {k} {o} {ds} d C = record { many = simp length-append (omega (arith,
     go [] z = refl
     go (c ∷ cs) z = absurd (omega arith)
 
+-- as the code has them
+abbrev rest-in : ℕ → ℕ → Rest
+rest-in k o = record { left = k; other = o }
+
 -- it is left, if it is one
-counts-rest : {k o : ℕ} (ds : Left) → Counts k o ds → rest k o ≡ only ds
+counts-rest : {k o : ℕ} (ds : Left) → Counts k o ds → rest (rest-in k o) ≡ only ds
 unfolding rest only
 counts-rest {k} {o} ds C = split (eqb k 1) (λ e. cc (C .last (eqb-true k 1 e))) (λ e. go ds (C .many) e)
   where
-    go : (cs : Left) → length cs ≡ k → eqb k 1 ≡ false → rest k o ≡ only cs
+    go : (cs : Left) → length cs ≡ k → eqb k 1 ≡ false → rest (rest-in k o) ≡ only cs
     go [] z e = cc
     go (c ∷ []) z e = absurd (eqb-false k 1 e (omega arith))
     go (c ∷ (b ∷ cs)) z e = cc
@@ -233,7 +238,7 @@ module _ (Γ : List ℕ) (t : ℕ) (taken : List ℕ) (v : ℕ) {k o : ℕ} (C :
   counts-taken d = rw (add-one v, collect-back-fail (untaken Γ t taken) (numbered Γ t) v 0 (rw zero-add (ne-eqb (word taken v) 0 d))) C
 
   -- it is past the last
-  pub counts-all : v ≡ count Γ t → rest k o ≡ only (free Γ t taken)
+  pub counts-all : v ≡ count Γ t → rest (rest-in k o) ≡ only (free Γ t taken)
   unfolding free free-below
   counts-all e = counts-rest _ (rw e at C)
 

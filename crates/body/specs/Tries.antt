@@ -11,20 +11,20 @@ use Rattle.model.specs.Answer.{Answer, refused, done}
 use Rattle.model.specs.Types.{count, discriminant}
 use Rattle.model.specs.Tree.{Forest}
 use Rattle.model.specs.Walk.{downcasting, enum-at}
-use Rattle.model.specs.Function.{local-types}
 use Rattle.model.specs.Block.{spot-before, arm-value}
 use Rattle.model.specs.Body.{Left, variants, variant-of, without, only, open-variant}
-use Rattle.records.specs.Here.{Holds}
-use Rattle.state.specs.Value.{value}
 use Rattle.state.specs.declared.nodes.State.{State}
 use Rattle.blocks.specs.Points.{matched-read}
+use Rattle.env.specs.Answers.{outcome}
 use Rattle.env.specs.declared.project.Outcome.{Outcome}
 use Rattle.env.specs.declared.project.Outcome.the-variants.{Fine, Refused as Denied}
+use Rattle.body.specs.declared.arms.Subject.{Subject}
+use Rattle.body.specs.declared.arms.Rest.{Rest}
 use Rattle.body.specs.declared.arms.Plan.{Plan}
 use Rattle.body.specs.declared.arms.Plan.the-variants.{Match, Refused}
-use Rattle.body.specs.declared.arms.Rest.{Rest}
-use Rattle.body.specs.declared.arms.Variant.{Variant}
-use Rattle.body.specs.declared.arms.Variant.the-variants.{Of, Unknown}
+use Rattle.body.specs.declared.tries.Variant.{Variant}
+use Rattle.body.specs.declared.tries.Variant.the-variants.{Of, Unknown}
+use Rattle.body.specs.Given.{In-each}
 use Rattle.body.specs.Arms.{rest}
 
 -- an option as the code has it
@@ -38,36 +38,58 @@ free Γ t taken = collect-from (λ v. eqb (word taken v) 0) (λ v. (discriminant
 
 -- r says which variant is left, if it is one
 pub record Rested (Γ : List ℕ) (t : ℕ) (taken : List ℕ) (r : Rest) : Type 0 where
-  pub is : rest (r .left) (r .other) ≡ only (free Γ t taken)
+  pub is : rest r ≡ only (free Γ t taken)
 
 module _ (Γ fn : List ℕ) where
+  -- A VARIANT
+
+  -- r says whether the variant v of the place read is refused, in each state of s
+  abbrev pub Tests : ℕ → ℕ → State → Outcome → Type 0
+  Tests read v s r = In-each Γ fn s (λ E. r ≡ outcome (downcasting Γ (spot-before fn read) v E))
+
+  -- AN ARM
+
   -- an arm of the value x, where ds are left: 8 if its variant is not
   unfoldable pub arm : ℕ → ℕ → Left → Forest → Answer Forest
   arm read x ds E = elim (variant-of x ds) [ none ↦ refused 8 | some v ↦ downcasting Γ (spot-before fn read) v E ]
 
   -- the target item i has an arm that opens its variant of E, and takes it
-  pub record Taken (read t i : ℕ) (E : Forest) (taken taken′ : List ℕ) : Type 0 where
+  pub record Taken (m : Subject) (i : ℕ) (E : Forest) (taken taken′ : List ℕ) : Type 0 where
     pub variant : ℕ
-    pub known : variant-of (arm-value fn i) (variants Γ t) ≡ some variant
-    pub left : variant-of (arm-value fn i) (free Γ t taken) ≡ some variant
+    pub known : variant-of (arm-value fn i) (variants Γ (m .typ)) ≡ some variant
+    pub left : variant-of (arm-value fn i) (free Γ (m .typ) taken) ≡ some variant
     pub state : Forest
-    pub opens : downcasting Γ (spot-before fn read) variant E ≡ done state
-    pub remain : free Γ t taken′ ≡ without (arm-value fn i) (free Γ t taken)
+    pub opens : downcasting Γ (spot-before fn (m .read)) variant E ≡ done state
+    pub remain : free Γ (m .typ) taken′ ≡ without (arm-value fn i) (free Γ (m .typ) taken)
 
   -- the arm of the target item i was tried
-  pub record Tried (read t i : ℕ) (E : Forest) (taken taken′ : List ℕ) (r : Outcome) : Type 0 where
-    pub denied : (n : ℕ) → r ≡ Denied n → arm read (arm-value fn i) (free Γ t taken) E ≡ refused n
-    pub fine : r ≡ Fine → Taken read t i E taken taken′
+  pub record Tried (m : Subject) (i : ℕ) (E : Forest) (taken taken′ : List ℕ) (r : Outcome) : Type 0 where
+    pub denied : (n : ℕ) → r ≡ Denied n → arm (m .read) (arm-value fn i) (free Γ (m .typ) taken) E ≡ refused n
+    pub fine : r ≡ Fine → Taken m i E taken taken′
 
-  -- the otherwise target was tried
-  pub record Ended (read t : ℕ) (E : Forest) (taken : List ℕ) (p : Plan) : Type 0 where
-    pub denied : (n : ℕ) → open-variant Γ fn (spot-before fn read) (only (free Γ t taken)) E ≡ refused n → p ≡ Refused n
-    pub fine : (D : Forest) → open-variant Γ fn (spot-before fn read) (only (free Γ t taken)) E ≡ done D → (left : ℕ) × (other : ℕ) × (p ≡ Match read t left other) × (rest left other ≡ only (free Γ t taken))
+  -- in each state of s
+  abbrev pub Tries : Subject → ℕ → State → List ℕ → List ℕ → Outcome → Type 0
+  Tries m i s taken taken′ r = In-each Γ fn s (λ E. Tried m i E taken taken′ r)
 
--- the block b matches on the place of the read, which is of the enum t in the state of s
-pub record Matching (Γ fn : List ℕ) (b read t : ℕ) (s : State) : Type 0 where
-  pub is : matched-read fn b ≡ some read
-  pub enum : (E : Forest) → Holds Γ (local-types fn) (value s) E → enum-at Γ (spot-before fn read) E ≡ done t
+  -- THE OTHERWISE TARGET
+
+  -- it opens the variant that is left, if it is one
+  abbrev pub last-open : Subject → List ℕ → Forest → Answer Forest
+  last-open m taken E = open-variant Γ fn (spot-before fn (m .read)) (only (free Γ (m .typ) taken)) E
+
+  -- it was tried
+  pub record Ended (m : Subject) (E : Forest) (taken : List ℕ) (p : Plan) : Type 0 where
+    pub denied : (n : ℕ) → last-open m taken E ≡ refused n → p ≡ Refused n
+    pub fine : (D : Forest) → last-open m taken E ≡ done D → (w : Rest) × (p ≡ Match m w) × (rest w ≡ only (free Γ (m .typ) taken))
+
+  -- in each state of s
+  abbrev pub Ends : Subject → State → List ℕ → Plan → Type 0
+  Ends m s taken p = In-each Γ fn s (λ E. Ended m E taken p)
+
+-- the block b matches on this place, which is of this enum in each state of s
+pub record Matching (Γ fn : List ℕ) (b : ℕ) (m : Subject) (s : State) : Type 0 where
+  pub is : matched-read fn b ≡ some (m .read)
+  pub enum : In-each Γ fn s (λ E. enum-at Γ (spot-before fn (m .read)) E ≡ done (m .typ))
 
 -- no variant is taken yet
 pub record Blank (taken : List ℕ) : Type 0 where

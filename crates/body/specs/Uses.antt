@@ -3,26 +3,41 @@ use mathlib.Core.Path.{_≡_}
 use mathlib.Core.Logic.{_≢_}
 use mathlib.Core.Bool.{Bool, true, false, cond}
 use mathlib.Core.List.{List, [], _++_}
-use Prim.Native.Nat.{ℕ, zero, suc}
+use Prim.Native.Nat.{ℕ, zero, suc, _-_, _≤_, _<_}
 use lib.ListN.{length}
 use Rattle.model.specs.Answer.{Answer, refused, done, _>>=_}
 use Rattle.model.specs.Tree.{Forest}
 use Rattle.model.specs.Place.{At}
 use Rattle.model.specs.Walk.{projection}
-use Rattle.model.specs.Function.{local-types}
+use Rattle.model.specs.Function.{nitems, local-types}
 use Rattle.model.specs.Block.{spot-before, uses-place, entry-point}
 use Rattle.model.specs.Frame.{Line, mark}
-use Rattle.model.specs.Record.{entries}
+use Rattle.model.specs.Record.{Entry, point-entry, entries}
 use Rattle.records.specs.Here.{Holds}
+use Rattle.mir.specs.Sizes.{Laid}
 use Rattle.state.specs.Value.{value, state-in}
 use Rattle.state.specs.declared.nodes.State.{State}
-use Rattle.statements.specs.Kept.{Puts}
+use Rattle.statements.specs.Kept.{Alike, Puts}
 use Rattle.statements.specs.declared.Out.{Out}
+use Rattle.statements.specs.declared.Point.{Point}
+use Rattle.body.specs.declared.items.Items.{Items}
 use Rattle.body.specs.declared.items.Passed.{Passed}
+use Rattle.body.specs.Given.{In-each}
+
+-- THE ITEMS
 
 -- the point of item i, or the entry's
 unfoldable pub point : List ℕ → Bool → ℕ → ℕ
 point fn entry i = cond entry (entry-point fn) i
+
+-- p is that point, in every function that has the item
+abbrev pub Points : ℕ → Bool → Point → Type 0
+Points i entry p = (fn : List ℕ) → Laid fn → i < nitems fn → (p .op, p .arg) ≡ point-entry (entry-point fn) (point fn entry i)
+
+-- these items stand in the function's record
+pub record Within (fn : List ℕ) (w : Items) : Type 0 where
+  pub order : w .from ≤ w .end
+  pub inside : w .end ≤ nitems fn
 
 module _ (Γ fn : List ℕ) where
   -- n items from i on: the state after, and what is recorded, each at its item or all at the entry
@@ -32,6 +47,24 @@ module _ (Γ fn : List ℕ) where
     | true ↦ projection Γ (spot-before fn i) E >>= λ r. uses entry n (suc i) (r .0) >>= λ w. done (w .0, mark (point fn entry i) (r .1) ++ w .1)
     | false ↦ uses entry n (suc i) E
   ]
+
+  -- these items
+  abbrev pub run-of : Items → Forest → Answer (Forest × List (Line At))
+  run-of w = uses (w .entry) (w .end - w .from) (w .from)
+
+-- WHAT IS RECORDED
+
+-- a statement of these entries is recorded behind what was, if the pass records; else nothing is
+pub record Says (out : List ℕ) (o : Out) (out′ : List ℕ) (o′ : Out) (es : List Entry) : Type 0 where
+  pub told : o .recording ≡ true → Puts 1 out o out′ o′ es
+  pub silent : o .recording ≡ false → (out′ ≡ out) × Alike o o′
+
+-- lines are; the point may be another then
+pub record Tells (fn : List ℕ) (out : List ℕ) (o : Out) (out′ : List ℕ) (o′ : Out) (ls : List (Line At)) : Type 0 where
+  pub told : o .recording ≡ true → Puts (length ls) out o out′ o′ (entries (entry-point fn) ls)
+  pub silent : o .recording ≡ false → (out′ ≡ out) × Alike o o′
+
+-- WHAT IS LEFT
 
 -- what a run of items leaves: the state, what is recorded, and a refusal or 0
 pub record After : Type 0 where
@@ -43,19 +76,18 @@ pub record After : Type 0 where
 abbrev pub after-in : List ℕ → List ℕ → Passed → After
 after-in fs ws r = record { state = state-in fs ws (r .nodes); out = r .out; refusal = r .refusal }
 
--- lines are recorded behind what was, if the pass records; else nothing is
-pub record Tells (fn : List ℕ) (recording : Bool) (out : List ℕ) (o : Out) (out′ : List ℕ) (o′ : Out) (ls : List (Line At)) : Type 0 where
-  pub told : recording ≡ true → Puts (length ls) out o out′ o′ (entries (entry-point fn) ls)
-  pub silent : recording ≡ false → (out′ ≡ out) × (o′ ≡ o)
-
 -- the state and the lines of a run of items that is not refused
-pub record Gone (Γ fn : List ℕ) (recording : Bool) (out : List ℕ) (o : Out) (out′ : List ℕ) (w : Forest × List (Line At)) (r : After) : Type 0 where
+pub record Gone (Γ fn : List ℕ) (out : List ℕ) (o : Out) (out′ : List ℕ) (w : Forest × List (Line At)) (r : After) : Type 0 where
   pub fine : r .refusal ≡ 0
   pub state : Holds Γ (local-types fn) (value (r .state)) (w .0)
-  pub lines : Tells fn recording out o out′ (r .out) (w .1)
+  pub lines : Tells fn out o out′ (r .out) (w .1)
 
 -- the code's r is model's a
-pub record Passes (Γ fn : List ℕ) (recording : Bool) (out : List ℕ) (o : Out) (out′ : List ℕ) (a : Answer (Forest × List (Line At))) (r : After) : Type 0 where
+pub record Passes (Γ fn : List ℕ) (out : List ℕ) (o : Out) (out′ : List ℕ) (a : Answer (Forest × List (Line At))) (r : After) : Type 0 where
   pub same : length out′ ≡ length out
   pub denied : (n : ℕ) → a ≡ refused n → (r .refusal ≡ n) × (n ≢ 0)
-  pub gone : (w : Forest × List (Line At)) → a ≡ done w → Gone Γ fn recording out o out′ w r
+  pub gone : (w : Forest × List (Line At)) → a ≡ done w → Gone Γ fn out o out′ w r
+
+-- from each state of s on, r is what model's run f comes to
+abbrev pub Runs : List ℕ → List ℕ → (Forest → Answer (Forest × List (Line At))) → State → List ℕ → Out → List ℕ → After → Type 0
+Runs Γ fn f s out o out′ r = In-each Γ fn s (λ E. Passes Γ fn out o out′ (f E) r)

@@ -1,20 +1,17 @@
 // The items of a block up to its ender: each place used is projected, and recorded where the pass records.
 ghost use mathlib.Core.Path.{_≡_};
-ghost use mathlib.Core.Bool.{true, false};
-ghost use mathlib.Core.List.{List, _∷_};
-ghost use Prim.Native.Nat.{ℕ, _-_, _≤_, _<_};
+ghost use mathlib.Core.Bool.{true};
+ghost use mathlib.Core.List.{_∷_};
+ghost use Prim.Native.Nat.{_≤_, _<_};
 ghost use lib.ListN.{length, take};
-ghost use Rattle.model.specs.Tree.{Forest};
+ghost use Rattle.moments.specs.Lent.{was, after};
 ghost use Rattle.model.specs.State.{pairs};
 ghost use Rattle.model.specs.Function.{nitems, local-types};
-ghost use Rattle.model.specs.Block.{uses-place, entry-point};
-ghost use Rattle.model.specs.Record.{point-entry};
-ghost use Rattle.records.specs.Here.{Holds};
-ghost use Rattle.mir.specs.Sizes.{Laid};
-ghost use Rattle.state.specs.Value.{value, state-in};
-ghost use Rattle.statements.specs.Kept.{Counted, Puts};
+ghost use Rattle.model.specs.Block.{uses-place};
+ghost use Rattle.state.specs.Value.{state-in};
+ghost use Rattle.statements.specs.Kept.{point-of, Counted};
 ghost use Rattle.body.specs.Given.{Accepted, Stated};
-ghost use Rattle.body.specs.Uses.{point, uses, after-in, Passes};
+ghost use Rattle.body.specs.Uses.{Points, Within, uses, run-of, Says, after-in, Runs};
 use blocks::place::root_before;
 use blocks::place::uses_place;
 use env::project::Projected;
@@ -28,6 +25,7 @@ use statements::FOLD;
 use statements::Out;
 use statements::Point;
 use statements::UNFOLD;
+use statements::at_point;
 use statements::record;
 use statements::small;
 
@@ -38,9 +36,16 @@ pub struct Passed {
     pub refusal: u32,
 }
 
+// The items from..end, all at the entry's point or each at its own.
+pub struct Items {
+    pub from: usize,
+    pub end: usize,
+    pub entry: bool,
+}
+
 // The point of item i, or the entry's.
 pub fn point_of(i: usize, entry: bool) -> Point
-    ensures { λ r. ⌜ ((fn : List ℕ) → Laid fn → i < nitems fn → (r .op, r .arg) ≡ point-entry (entry-point fn) (point fn entry i)) ⌝ }
+    ensures { λ r. ⌜ Points i entry r ⌝ }
 {
     if entry {
         return Point { op: ENTRY, arg: 0 };
@@ -52,23 +57,13 @@ pub fn point_of(i: usize, entry: bool) -> Point
 }
 
 // One statement of the first n items of a place, if the pass records.
-fn tell(
-    out: &mut [u32],
-    o: Out,
-    recording: bool,
-    p: Point,
-    verb: u32,
-    ops: &[u32],
-    args: &[u32],
-    n: usize,
-) -> Out
+fn tell(out: &mut [u32], o: Out, verb: u32, ops: &[u32], args: &[u32], n: usize) -> Out
     requires { ⌜ Counted (now out) o ⌝ }
     requires { ⌜ (n ≤ length (now ops)) × (n ≤ length (now args)) ⌝ }
-    ensures { λ r. ⌜ (recording ≡ true → Puts 1 (now (out .entry)) o (now (out .exit)) r ((p .op, p .arg) ∷ (verb, 0) ∷ pairs (take n (now (ops .entry))) (take n (now (args .entry))))) ⌝ }
-    ensures { λ r. ⌜ (recording ≡ false → (now (out .exit) ≡ now (out .entry)) × (r ≡ o)) ⌝ }
+    ensures { λ r. ⌜ Says (was out) o (after out) r (point-of o ∷ (verb, 0) ∷ pairs (take n (was ops)) (take n (was args))) ⌝ }
 {
-    if recording {
-        return record(out, o, p, verb, ops, args, n);
+    if o.recording {
+        return record(out, o, verb, ops, args, n);
     }
     o
 }
@@ -83,7 +78,6 @@ fn use_place(
     forms: &mut [u16],
     whats: &mut [u16],
     nodes: usize,
-    recording: bool,
     out: &mut [u32],
     o: Out,
 ) -> Passed
@@ -92,9 +86,9 @@ fn use_place(
     requires { ⌜ uses-place (now fun) i ≡ true ⌝ }
     requires { ⌜ Stated (now types) (local-types (now fun)) (state-in (now forms) (now whats) nodes) ⌝ }
     requires { ⌜ Counted (now out) o ⌝ }
-    ensures { λ r. ⌜ ((E : Forest) → Holds (now (types .entry)) (local-types (now (fun .entry))) (value (state-in (now (forms .entry)) (now (whats .entry)) nodes)) E → Passes (now (types .entry)) (now (fun .entry)) recording (now (out .entry)) o (now (out .exit)) (uses (now (types .entry)) (now (fun .entry)) entry 1 i E) (after-in (now (forms .exit)) (now (whats .exit)) r)) ⌝ }
+    ensures { λ r. ⌜ Runs (was types) (was fun) (uses (was types) (was fun) entry 1 i) (state-in (was forms) (was whats) nodes) (was out) o (after out) (after-in (after forms) (after whats) r) ⌝ }
 {
-    let p = point_of(i, entry);
+    let p = at_point(o, point_of(i, entry));
     let root = root_before(fun, i);
     let ops = ops_from(fun, root, i);
     let args = args_from(fun, root, i);
@@ -112,16 +106,16 @@ fn use_place(
     match a {
         Projected::Refused(n) => Passed {
             nodes,
-            out: o,
+            out: p,
             refusal: n,
         },
         Projected::Nothing => Passed {
             nodes: r.nodes,
-            out: o,
+            out: p,
             refusal: 0,
         },
         Projected::Fold => {
-            let q = tell(out, o, recording, p, FOLD, ops, args, ops.len());
+            let q = tell(out, p, FOLD, ops, args, ops.len());
             Passed {
                 nodes: r.nodes,
                 out: q,
@@ -129,7 +123,7 @@ fn use_place(
             }
         }
         Projected::Unfold(n) => {
-            let q = tell(out, o, recording, p, UNFOLD, ops, args, n + 1);
+            let q = tell(out, p, UNFOLD, ops, args, n + 1);
             Passed {
                 nodes: r.nodes,
                 out: q,
@@ -139,45 +133,30 @@ fn use_place(
     }
 }
 
-// The items from..end, all at the entry's point or each at its own, in the lent arrays.
+// These items, in the lent arrays.
 pub fn pass_items(
     types: &[u32],
     offs: &[u32],
     fun: &[u32],
-    from: usize,
-    end: usize,
-    entry: bool,
+    items: Items,
     forms: &mut [u16],
     whats: &mut [u16],
     nodes: usize,
-    recording: bool,
     out: &mut [u32],
     o: Out,
 ) -> Passed
     requires { ⌜ Accepted (now types) (now offs) (now fun) ⌝ }
-    requires { ⌜ (from ≤ end) × (end ≤ nitems (now fun)) ⌝ }
+    requires { ⌜ Within (now fun) items ⌝ }
     requires { ⌜ Stated (now types) (local-types (now fun)) (state-in (now forms) (now whats) nodes) ⌝ }
     requires { ⌜ Counted (now out) o ⌝ }
-    ensures { λ r. ⌜ ((E : Forest) → Holds (now (types .entry)) (local-types (now (fun .entry))) (value (state-in (now (forms .entry)) (now (whats .entry)) nodes)) E → Passes (now (types .entry)) (now (fun .entry)) recording (now (out .entry)) o (now (out .exit)) (uses (now (types .entry)) (now (fun .entry)) entry (end - from) from E) (after-in (now (forms .exit)) (now (whats .exit)) r)) ⌝ }
+    ensures { λ r. ⌜ Runs (was types) (was fun) (run-of (was types) (was fun) items) (state-in (was forms) (was whats) nodes) (was out) o (after out) (after-in (after forms) (after whats) r) ⌝ }
 {
     let mut n = nodes;
     let mut q = o;
-    let mut i = from;
-    while i < end {
+    let mut i = items.from;
+    while i < items.end {
         if uses_place(fun, i) {
-            let r = use_place(
-                types,
-                offs,
-                fun,
-                i,
-                entry,
-                forms,
-                whats,
-                n,
-                recording,
-                out,
-                q,
-            );
+            let r = use_place(types, offs, fun, i, items.entry, forms, whats, n, out, q);
             if r.refusal != 0 {
                 return r;
             }

@@ -22,16 +22,15 @@ use Rattle.mir.specs.Parts.{is-some}
 use Rattle.input.specs.Input.{Checked}
 use Rattle.input.proofs.Tested.{typed-goes, typed-stops, taken-goes, taken-stops}
 use Rattle.statements.specs.declared.Out.{Out}
-use Rattle.statements.specs.declared.Point.{Point}
-use Rattle.statements.specs.Kept.{room, Kept, Puts, Finished}
-use Rattle.statements.proofs.Puts.{kept-start}
+use Rattle.statements.specs.Kept.{point-of, room, Kept, Puts, Finished}
+use Rattle.statements.proofs.Puts.{kept-begun}
 use Rattle.collectors.specs.Trail.{lines-of, root}
 use Rattle.collectors.proofs.Lines.{lines-many, lines-mark}
 use Rattle.collect.specs.declared.states.Collected.{Collected}
 use Rattle.collect.specs.declared.states.Collected.the-variants.{Done, Refused}
 use Rattle.collect.specs.declared.Record.{Record}
 use Rattle.collect.specs.declared.Record.the-variants.{Done as Counts, Refused as Refusal}
-use Rattle.collect.specs.Answers.{begin, start, Ready-to, refuses, finishes, writes, Writes, Collects}
+use Rattle.collect.specs.Answers.{start, Ready-to, refuses, finishes, writes, Writes, Finishes, Collects}
 
 -- THE RECORD IS FINISHED
 
@@ -65,22 +64,19 @@ written-is n a =
 
 -- statements are recorded
 pub ended-puts : {before out out′ : List ℕ} {q : Out} {r : Record} (b : List At) → Puts (length b) before start out q (lines-of (14, 0) (root 0) b)
-    → ((k : ℕ) (es : List Entry) → Kept k es out q → k ≤ length es → Writes (length out) (finishes (length out) k es) r out′)
-    → Writes (length out) (written [] [] (length out) b) r out′
+    → Finishes out q r out′ → Writes (length out) (written [] [] (length out) b) r out′
 ended-puts {before} {out} {q = q} b P f =
     let es : List Entry = lines-of (14, 0) (root 0) b in
-    let K : Kept (length b) es out q = rw (zero-add (length b)) at (P .kept 0 [] (kept-start before)) in
+    let K : Kept (length b) es out q = rw (zero-add (length b)) at (P .kept 0 [] (kept-begun before)) in
     rw (written-is (length out) b) (f (length b) es K (lines-many (14, 0) (root 0) b))
 
-module _ {before out : List ℕ} {a : Answer (List At)} {c : Collected} (C : Collects (14, 0) before start out a c) where
+module _ {before out : List ℕ} {a : Answer (List At)} {c : Collected} (C : Collects before start out a c) where
   -- a collector is refused
   pub ended-refused : {m n : ℕ} {r : Record} {out′ : List ℕ} → c ≡ Refused n → Writes m (refuses n) r out′ → Writes m (writes m a) r out′
   ended-refused {n = n} e w = rw (C .stopped n e) w
 
   -- it is not
-  pub ended-done : {q : Out} {r : Record} {out′ : List ℕ} → c ≡ Done q
-      → ((k : ℕ) (es : List Entry) → Kept k es out q → k ≤ length es → Writes (length out) (finishes (length out) k es) r out′)
-      → Writes (length out) (writes (length out) a) r out′
+  pub ended-done : {q : Out} {r : Record} {out′ : List ℕ} → c ≡ Done q → Finishes out q r out′ → Writes (length out) (writes (length out) a) r out′
   ended-done {q} e f =
       let D = C .recorded q e in
       rw (D .1) (ended-puts (D .0) (D .2) f)
@@ -89,15 +85,15 @@ module _ {before out : List ℕ} {a : Answer (List At)} {c : Collected} (C : Col
   pub ended-ready : Ready-to out c
   ended-ready q e = C .recorded q e .2 .counted
 
--- a collecting call's point is the entry, and nothing is recorded before
-module _ {p : Point} {o : Out} {out out′ : List ℕ} (e : p ≡ begin) (d : o ≡ start) where
+-- a collecting call starts with nothing
+module _ {o : Out} {out out′ : List ℕ} (d : o ≡ start) where
   -- a collector's answer
-  pub collects-from : {a : Answer (List At)} {c : Collected} → Collects (p .op, p .arg) out o out′ a c → Collects (14, 0) out start out′ a c
-  collects-from C = rw (e, d) at C
+  pub collects-from : {a : Answer (List At)} {c : Collected} → Collects out o out′ a c → Collects out start out′ a c
+  collects-from C = rw d at C
 
   -- statements
-  pub puts-from : {q : Out} (b : List At) → Puts (length b) out o out′ q (lines-of (p .op, p .arg) (root 0) b) → Puts (length b) out start out′ q (lines-of (14, 0) (root 0) b)
-  puts-from b P = rw (e, d) at P
+  pub puts-from : {q : Out} (b : List At) → Puts (length b) out o out′ q (lines-of (point-of o) (root 0) b) → Puts (length b) out start out′ q (lines-of (14, 0) (root 0) b)
+  puts-from b P = rw d at P
 
 -- the same answer, in a buffer of as many words
 pub writes-same : {m n : ℕ} (a : Answer (List At)) {b : Answer (List ℕ)} {r : Record} {out′ : List ℕ} → n ≡ m → b ≡ writes m a → Writes n (writes n a) r out′ → Writes m b r out′

@@ -12,14 +12,13 @@ use Rattle.model.specs.Tree.{Tree, Forest, size}
 use Rattle.model.specs.State.{State}
 use Rattle.model.specs.Place.{At, later}
 use Rattle.model.specs.Collect.{firsts, foldss, folds-at-ret}
-use Rattle.model.specs.Record.{Entry}
 use Rattle.base.specs.Tests.{split, clash}
 use Rattle.records.specs.Here.{Coded, CodedAll, Holds}
 use Rattle.records.specs.Coded.{coded-none, coded-split}
 use Rattle.records.specs.Built.{none-coded, more-coded}
 use Rattle.statements.specs.declared.Out.{Out}
-use Rattle.statements.specs.Kept.{Puts}
-use Rattle.collectors.specs.declared.trees.Got.{Got}
+use Rattle.statements.specs.Kept.{point-of, Puts}
+use Rattle.collectors.specs.declared.got.Got.{Got}
 use Rattle.collect.specs.declared.states.Collected.{Collected}
 use Rattle.collectors.specs.Trail.{lines-of, root}
 use Rattle.collectors.specs.Gets.{Tells, StandAll, OwingAll}
@@ -29,14 +28,14 @@ use Rattle.collectors.proofs.Telling.{told, told-done, told-refused}
 use Rattle.collect.proofs.Passing.{root-next}
 
 -- a collector's answer that is told is its outcome
-pub collects-told : {out out′ : List ℕ} {o : Out} {g : Got} {i j : ℕ} {a : Answer (List At)} {r : Collected} (p : Entry)
-    → Tells out o out′ g (lines-of p (root 0)) i j a → r ≡ outcome g → Collects p out o out′ a r
-collects-told {out} {out′} {o} {g} p T e =
+pub collects-told : {out out′ : List ℕ} {o : Out} {g : Got} {i j : ℕ} {a : Answer (List At)} {r : Collected}
+    → Tells out o out′ g (lines-of (point-of o) (root 0)) i j a → r ≡ outcome g → Collects out o out′ a r
+collects-told {out} {out′} {o} {g} T e =
     split (eqb (g .refusal) 0)
     (λ z.
     let D = told T (eqb-true (g .refusal) 0 z) in
     record {
-      recorded = λ q d. let same : g .out ≡ q = cc in (D .0, D .1, subst (λ (u : Out). Puts (length (D .0)) out o out′ u (lines-of p (root 0) (D .0))) same (D .2 .puts));
+      recorded = λ q d. let same : g .out ≡ q = cc in (D .0, D .1, subst (λ (u : Out). Puts (length (D .0)) out o out′ u (lines-of (point-of o) (root 0) (D .0))) same (D .2 .puts));
       stopped = λ n d. clash (cc);
     })
     (λ z.
@@ -59,17 +58,17 @@ coded-firsts (suc n) (t ∷ ts) h =
     rw (S .is) (more-coded (S .here) (coded-firsts n ts (S .rest)))
 
 -- what is owed of the trees behind the first tells all
-pub owed-told : {Γ fs ws out out′ : List ℕ} {p : Entry} {o : Out} {r : Got} (locals : List ℕ) (a : ℕ) {i : ℕ} → a < length locals
-    → ((x : Tree) → Coded Γ fs ws 0 (getD locals 0 0) x → i ≡ 0 + size x) → OwingAll Γ p out o out′ r (root 1) fs ws i (drop 1 (take (a + 1) locals))
-    → Owed Γ p out o out′ r a fs ws locals
+pub owed-told : {Γ fs ws out out′ : List ℕ} {o : Out} {r : Got} (locals : List ℕ) (a : ℕ) {i : ℕ} → a < length locals
+    → ((x : Tree) → Coded Γ fs ws 0 (getD locals 0 0) x → i ≡ 0 + size x) → OwingAll Γ out o out′ r (root 1) fs ws i (drop 1 (take (a + 1) locals))
+    → Owed Γ out o out′ r a fs ws locals
 unfolding folds-at-ret
 owed-told [] a l g A = absurd (omega arith)
-owed-told {Γ} {fs} {ws} {p} (t ∷ ts) a {i} l g A =
+owed-told {Γ} {fs} {ws} {o = o} (t ∷ ts) a {i} l g A =
     record {
       trees = λ S h.
           let X = coded-split h in
           let F = coded-firsts a ts (rw (← (g (X .head) (X .here))) at (X .rest)) in
-          let B : OwingAll Γ p _ _ _ _ (root 1) fs ws i (take a ts) = rw (add-one a) at A in
+          let B : OwingAll Γ _ _ _ _ (root 1) fs ws i (take a ts) = rw (add-one a) at A in
           let T = told-done (B .trees (firsts a (X .tail)) F) in
-          rw (X .is, length-map (foldss Γ (firsts a (X .tail))) later, lines-later p (root 0) (root 1) (root-next 0) (foldss Γ (firsts a (X .tail)))) (T .puts);
+          rw (X .is, length-map (foldss Γ (firsts a (X .tail))) later, lines-later (point-of o) (root 0) (root 1) (root-next 0) (foldss Γ (firsts a (X .tail)))) (T .puts);
     }

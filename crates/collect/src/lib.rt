@@ -1,15 +1,11 @@
 // Statements that lead from one state to another, and the record that they are written to. The calls for users stand here.
 ghost use mathlib.Core.Path.{_≡_};
-ghost use mathlib.Core.List.{List};
-ghost use Prim.Native.Nat.{ℕ, _≤_};
 ghost use lib.ListN.{length};
-ghost use Rattle.model.specs.Answer.{Answer};
-ghost use Rattle.model.specs.Place.{At};
-ghost use Rattle.model.specs.Record.{Entry};
+ghost use Rattle.moments.specs.Lent.{was, after};
 ghost use Rattle.model.specs.Calls.{call-collect, call-unfolds, call-folds};
 ghost use Rattle.state.specs.Value.{value};
-ghost use Rattle.statements.specs.Kept.{Counted, Kept};
-ghost use Rattle.collect.specs.Answers.{begin, start, refuses, finishes, writes, Writes, Collects, Ready-to, Leads, Opens, Settles};
+ghost use Rattle.statements.specs.Kept.{Counted};
+ghost use Rattle.collect.specs.Answers.{start, refuses, Writes, Ready-to, Finishes, Ends, Leads, Opens, Settles};
 
 pub mod states;
 
@@ -19,6 +15,7 @@ use state::nodes::State;
 use statements::ENTRY;
 use statements::Out;
 use statements::Point;
+use statements::begun;
 use statements::finish;
 use statements::wipe;
 use states::Collected;
@@ -29,26 +26,16 @@ pub enum Record {
     Refused(u32),
 }
 
-// Every point of a collecting call is the entry.
-fn entry() -> Point
-    ensures { λ r. ⌜ r ≡ begin ⌝ }
-{
-    Point { op: ENTRY, arg: 0 }
-}
-
-// Nothing is recorded yet.
-fn nothing() -> Out
+// Nothing is recorded yet, and every point of a collecting call is the entry.
+fn start() -> Out
     ensures { λ r. ⌜ r ≡ start ⌝ }
 {
-    Out {
-        statements: 0,
-        entries: 0,
-    }
+    begun(true, Point { op: ENTRY, arg: 0 })
 }
 
 // A refusal: the buffer is zeroed.
 fn refused(out: &mut [u32], n: u32) -> Record
-    ensures { λ r. ⌜ Writes (length (now (out .entry))) (refuses n) r (now (out .exit)) ⌝ }
+    ensures { λ r. ⌜ Writes (length (was out)) (refuses n) r (after out) ⌝ }
 {
     wipe(out);
     Record::Refused(n)
@@ -57,7 +44,7 @@ fn refused(out: &mut [u32], n: u32) -> Record
 // The record is written out.
 fn finished(out: &mut [u32], o: Out) -> Record
     requires { ⌜ Counted (now out) o ⌝ }
-    ensures { λ r. ⌜ ((k : ℕ) (es : List Entry) → Kept k es (now (out .entry)) o → k ≤ length es → Writes (length (now (out .entry))) (finishes (length (now (out .entry))) k es) r (now (out .exit))) ⌝ }
+    ensures { λ r. ⌜ Finishes (was out) o r (after out) ⌝ }
 {
     if finish(out, o) {
         return Record::Done {
@@ -71,7 +58,7 @@ fn finished(out: &mut [u32], o: Out) -> Record
 // A collector has ended.
 fn ended(out: &mut [u32], c: Collected) -> Record
     requires { ⌜ Ready-to (now out) c ⌝ }
-    ensures { λ r. ⌜ ((a : Answer (List At)) (before : List ℕ) → Collects (14, 0) before start (now (out .entry)) a c → Writes (length (now (out .entry))) (writes (length (now (out .entry))) a) r (now (out .exit))) ⌝ }
+    ensures { λ r. ⌜ Ends (was out) c r (after out) ⌝ }
 {
     match c {
         Collected::Refused(n) => refused(out, n),
@@ -101,7 +88,7 @@ pub fn collect_fold_unfolds(
     if check_given(types, &offs, locals, e) != 0 {
         return refused(out, 3);
     }
-    let c = states::collect_fold_unfolds(types, &offs, locals, s, e, out, entry(), nothing());
+    let c = states::collect_fold_unfolds(types, &offs, locals, s, e, out, start());
     ended(out, c)
 }
 
@@ -118,7 +105,7 @@ pub fn collect_unfolds(types: &[u32], locals: &[u32], s: State, out: &mut [u32])
     if check_given(types, &offs, locals, s) != 0 {
         return refused(out, 3);
     }
-    let c = states::collect_unfolds(types, &offs, locals, s, out, entry(), nothing());
+    let c = states::collect_unfolds(types, &offs, locals, s, out, start());
     ended(out, c)
 }
 
@@ -144,6 +131,6 @@ pub fn collect_folds_at_ret(
     if check_given(types, &offs, locals, s) != 0 {
         return refused(out, 3);
     }
-    let o = states::collect_folds_at_ret(types, &offs, locals, a, s, out, entry(), nothing());
+    let o = states::collect_folds_at_ret(types, &offs, locals, a, s, out, start());
     finished(out, o)
 }

@@ -1,28 +1,25 @@
-// `collect_fold_unfolds`, `collect_unfolds` and `collect_folds_at_ret`, over states.
+// `collect_fold_unfolds`, `collect_unfolds` and `collect_folds_at_ret`, over states: what they collect is recorded at the point of o.
 ghost use mathlib.Core.Path.{_≡_};
 ghost use mathlib.Core.Bool.{true};
 ghost use Prim.Native.Nat.{_<_};
 ghost use lib.ListN.{length};
-ghost use Rattle.model.specs.Tree.{Forest};
+ghost use Rattle.moments.specs.Lent.{was, after};
 ghost use Rattle.model.specs.State.{locals-ok};
-ghost use Rattle.model.specs.Collect.{unfoldss, collects, folds-at-ret};
-ghost use Rattle.records.specs.Here.{Holds};
 ghost use Rattle.type_record.specs.Sizes.{Ready};
-ghost use Rattle.state.specs.Value.{value};
-ghost use Rattle.statements.specs.Kept.{Counted, Puts};
-ghost use Rattle.collectors.specs.Trail.{Long, lines-of, root};
+ghost use Rattle.statements.specs.Kept.{Counted};
+ghost use Rattle.collectors.specs.Trail.{Long, root};
 ghost use Rattle.collectors.specs.Gets.{StandAll, OpeningAll, LeadingAll};
-ghost use Rattle.collect.specs.Answers.{outcome, Collects, Owed};
+ghost use Rattle.collect.specs.Answers.{outcome, Held, Moves, Unfolds, Owes, Owed};
+use collectors::folds::folds_node;
+use collectors::got::Cursor;
+use collectors::got::Got;
+use collectors::got::reached;
+use collectors::pairs::collect_node;
 use collectors::path::set_item;
-use collectors::trees::Got;
-use collectors::trees::collect_node;
-use collectors::trees::folds_node;
-use collectors::trees::reached;
-use collectors::trees::unfolds_node;
+use collectors::unfolds::unfolds_node;
 use state::nodes::State;
 use state::nodes::node_end;
 use statements::Out;
-use statements::Point;
 use type_record::record::wide;
 
 // What opens each local, one after the other, until it is as its tree.
@@ -35,7 +32,6 @@ fn unfolds_locals<'a>(
     ops: &mut [u32],
     args: &mut [u32],
     out: &mut [u32],
-    p: Point,
     o: Out,
 ) -> Got
     requires { ⌜ Ready (now types) (now offs) ⌝ }
@@ -43,28 +39,20 @@ fn unfolds_locals<'a>(
     requires { ⌜ StandAll (now types) (now forms) (now whats) 0 (now locals) 1 ⌝ }
     requires { ⌜ Long (now ops) (now args) ⌝ }
     requires { ⌜ Counted (now out) o ⌝ }
-    ensures { λ r. ⌜ OpeningAll (now (types .entry)) (p .op, p .arg) (now (out .entry)) o (now (out .exit)) r (root 0) (now (forms .entry)) (now (whats .entry)) 0 (now (locals .entry)) ⌝ }
+    ensures { λ r. ⌜ OpeningAll (was types) (was out) o (after out) r (root 0) (was forms) (was whats) 0 (was locals) ⌝ }
 {
     let count = locals.len();
     let mut g = reached(0, 0, o);
     let mut l = 0;
     while l < count {
         set_item(ops, args, 0, 0, l);
-        let q = g.out;
-        g = unfolds_node(
-            types,
-            offs,
-            forms,
-            whats,
-            g.second,
-            wide(locals[l]),
-            ops,
-            args,
-            1,
-            out,
-            p,
-            q,
-        );
+        let c = Cursor {
+            first: 0,
+            second: g.second,
+            typ: wide(locals[l]),
+            depth: 1,
+        };
+        g = unfolds_node(types, offs, forms, whats, c, ops, args, out, g.out);
         if g.refusal != 0 {
             return g;
         }
@@ -85,7 +73,6 @@ fn collect_locals<'a>(
     ops: &mut [u32],
     args: &mut [u32],
     out: &mut [u32],
-    p: Point,
     o: Out,
 ) -> Got
     requires { ⌜ Ready (now types) (now offs) ⌝ }
@@ -94,31 +81,20 @@ fn collect_locals<'a>(
     requires { ⌜ StandAll (now types) (now f2) (now w2) 0 (now locals) 1 ⌝ }
     requires { ⌜ Long (now ops) (now args) ⌝ }
     requires { ⌜ Counted (now out) o ⌝ }
-    ensures { λ r. ⌜ LeadingAll (now (types .entry)) (p .op, p .arg) (now (out .entry)) o (now (out .exit)) r (root 0) (now (f1 .entry)) (now (w1 .entry)) 0 (now (f2 .entry)) (now (w2 .entry)) 0 (now (locals .entry)) ⌝ }
+    ensures { λ r. ⌜ LeadingAll (was types) (was out) o (after out) r (root 0) (was f1) (was w1) 0 (was f2) (was w2) 0 (was locals) ⌝ }
 {
     let n = locals.len();
     let mut g = reached(0, 0, o);
     let mut l = 0;
     while l < n {
         set_item(ops, args, 0, 0, l);
-        let q = g.out;
-        g = collect_node(
-            types,
-            offs,
-            f1,
-            w1,
-            g.first,
-            f2,
-            w2,
-            g.second,
-            wide(locals[l]),
-            ops,
-            args,
-            1,
-            out,
-            p,
-            q,
-        );
+        let c = Cursor {
+            first: g.first,
+            second: g.second,
+            typ: wide(locals[l]),
+            depth: 1,
+        };
+        g = collect_node(types, offs, f1, w1, f2, w2, c, ops, args, out, g.out);
         if g.refusal != 0 {
             return g;
         }
@@ -138,7 +114,6 @@ fn folds_locals<'a>(
     ops: &mut [u32],
     args: &mut [u32],
     out: &mut [u32],
-    p: Point,
     o: Out,
 ) -> Got
     requires { ⌜ Ready (now types) (now offs) ⌝ }
@@ -147,28 +122,20 @@ fn folds_locals<'a>(
     requires { ⌜ StandAll (now types) (now forms) (now whats) 0 (now locals) 1 ⌝ }
     requires { ⌜ Long (now ops) (now args) ⌝ }
     requires { ⌜ Counted (now out) o ⌝ }
-    ensures { λ r. ⌜ Owed (now (types .entry)) (p .op, p .arg) (now (out .entry)) o (now (out .exit)) r a (now (forms .entry)) (now (whats .entry)) (now (locals .entry)) ⌝ }
+    ensures { λ r. ⌜ Owed (was types) (was out) o (after out) r a (was forms) (was whats) (was locals) ⌝ }
 {
     let i = node_end(types, offs, forms, whats, 0, wide(locals[0]));
     let mut g = reached(i, 0, o);
     let mut l = 1;
     while l <= a {
         set_item(ops, args, 0, 0, l);
-        let q = g.out;
-        g = folds_node(
-            types,
-            offs,
-            forms,
-            whats,
-            g.first,
-            wide(locals[l]),
-            ops,
-            args,
-            1,
-            out,
-            p,
-            q,
-        );
+        let c = Cursor {
+            first: g.first,
+            second: 0,
+            typ: wide(locals[l]),
+            depth: 1,
+        };
+        g = folds_node(types, offs, forms, whats, c, ops, args, out, g.out);
         l += 1;
     }
     g
@@ -192,7 +159,7 @@ fn outcome(g: Got) -> Collected
     Collected::Done(q)
 }
 
-// From one state to another: the statements, at the point p.
+// From one state to another.
 pub fn collect_fold_unfolds(
     types: &[u32],
     offs: &[u32],
@@ -200,15 +167,14 @@ pub fn collect_fold_unfolds(
     s: State,
     e: State,
     out: &mut [u32],
-    p: Point,
     o: Out,
 ) -> Collected
     requires { ⌜ Ready (now types) (now offs) ⌝ }
     requires { ⌜ locals-ok (now types) (now locals) ≡ true ⌝ }
-    requires { ⌜ ((S : Forest) × Holds (now types) (now locals) (value s) S) ⌝ }
-    requires { ⌜ ((E : Forest) × Holds (now types) (now locals) (value e) E) ⌝ }
+    requires { ⌜ Held (now types) (now locals) s ⌝ }
+    requires { ⌜ Held (now types) (now locals) e ⌝ }
     requires { ⌜ Counted (now out) o ⌝ }
-    ensures { λ r. ⌜ ((S E : Forest) → Holds (now (types .entry)) (now (locals .entry)) (value s) S → Holds (now (types .entry)) (now (locals .entry)) (value e) E → Collects (p .op, p .arg) (now (out .entry)) o (now (out .exit)) (collects (now (types .entry)) S E) r) ⌝ }
+    ensures { λ r. ⌜ Moves (was types) (was locals) s e (was out) o (after out) r ⌝ }
 {
     let mut ops = [0u32; 130];
     let mut args = [0u32; 130];
@@ -223,7 +189,6 @@ pub fn collect_fold_unfolds(
         &mut ops,
         &mut args,
         out,
-        p,
         o,
     );
     outcome(g)
@@ -236,14 +201,13 @@ pub fn collect_unfolds(
     locals: &[u32],
     s: State,
     out: &mut [u32],
-    p: Point,
     o: Out,
 ) -> Collected
     requires { ⌜ Ready (now types) (now offs) ⌝ }
     requires { ⌜ locals-ok (now types) (now locals) ≡ true ⌝ }
-    requires { ⌜ ((S : Forest) × Holds (now types) (now locals) (value s) S) ⌝ }
+    requires { ⌜ Held (now types) (now locals) s ⌝ }
     requires { ⌜ Counted (now out) o ⌝ }
-    ensures { λ r. ⌜ ((S : Forest) → Holds (now (types .entry)) (now (locals .entry)) (value s) S → Collects (p .op, p .arg) (now (out .entry)) o (now (out .exit)) (unfoldss (now (types .entry)) S) r) ⌝ }
+    ensures { λ r. ⌜ Unfolds (was types) (was locals) s (was out) o (after out) r ⌝ }
 {
     let mut ops = [0u32; 130];
     let mut args = [0u32; 130];
@@ -256,7 +220,6 @@ pub fn collect_unfolds(
         &mut ops,
         &mut args,
         out,
-        p,
         o,
     );
     outcome(g)
@@ -270,15 +233,14 @@ pub fn collect_folds_at_ret(
     a: usize,
     s: State,
     out: &mut [u32],
-    p: Point,
     o: Out,
 ) -> Out
     requires { ⌜ Ready (now types) (now offs) ⌝ }
     requires { ⌜ locals-ok (now types) (now locals) ≡ true ⌝ }
     requires { ⌜ a < length (now locals) ⌝ }
-    requires { ⌜ ((S : Forest) × Holds (now types) (now locals) (value s) S) ⌝ }
+    requires { ⌜ Held (now types) (now locals) s ⌝ }
     requires { ⌜ Counted (now out) o ⌝ }
-    ensures { λ r. ⌜ ((S : Forest) → Holds (now (types .entry)) (now (locals .entry)) (value s) S → Puts (length (folds-at-ret (now (types .entry)) a S)) (now (out .entry)) o (now (out .exit)) r (lines-of (p .op, p .arg) (root 0) (folds-at-ret (now (types .entry)) a S))) ⌝ }
+    ensures { λ r. ⌜ Owes (was types) (was locals) a s (was out) o (after out) r ⌝ }
 {
     let mut ops = [0u32; 130];
     let mut args = [0u32; 130];
@@ -292,7 +254,6 @@ pub fn collect_folds_at_ret(
         &mut ops,
         &mut args,
         out,
-        p,
         o,
     );
     g.out

@@ -5,6 +5,6 @@ pub mod Telling
 pub mod Shut
 pub mod Standing
 pub mod Reading
-pub mod Unfolds
+pub mod Opens
 pub mod Leads
-pub mod Folds
+pub mod Owes

@@ -10,7 +10,12 @@ use Rattle.model.specs.Place.{Place, Verb, Statement, At, here, under, first, l
 use Rattle.model.specs.Collect.{hop, lift, both}
 use Rattle.model.specs.Frame.{mark}
 use Rattle.model.specs.Record.{Entry, elem-entry, verb-entry, point-entry, line-entries, entries}
+use Rattle.collectors.specs.declared.path.Way.{Way}
 use Rattle.collectors.specs.Trail.{line, lines, lines-of, way, root}
+
+-- the way to the first child of a node of kind k, open at v
+abbrev pub way-in : Bool → ℕ → ℕ → Way
+way-in full k v = record { full = full; kind = k; variant = v; child = 0 }
 
 -- the verb of a statement seen from further up
 under-verb : (h : Place) (c : Statement) → (under h c) .verb ≡ c .verb
@@ -31,7 +36,7 @@ module _ (p : Entry) where
       ∙ ap (λ (l : List Entry). p ∷ verb-entry (c .verb) ∷ l) (sym (append-assoc q (map elem-entry h) (map elem-entry (c .place))))
 
   -- statements of the children, seen from the node
-  pub lines-lift : (q : List Entry) (full : Bool) (k v : ℕ) (a : List At) → lines p q (map (lift full k v) a) ≡ lines-of p (way q full k v 0) a
+  pub lines-lift : (q : List Entry) (full : Bool) (k v : ℕ) (a : List At) → lines p q (map (lift full k v) a) ≡ lines-of p (way q (way-in full k v)) a
   unfolding lines lines-of lift way
   lines-lift q full k v [] = refl
   lines-lift q full k v (c ∷ a) =

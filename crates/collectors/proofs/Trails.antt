@@ -1,7 +1,7 @@
 -- The items of a path in its two arrays: one more is set, and those before stay. Assumes nothing.
 use mathlib.Core.Path.{_≡_, refl, sym, _∙_, ap, ap₂}
-use mathlib.Core.Bool.{Bool, true, false, _&&_}
-use mathlib.Core.List.{List, [], _∷_, _++_, map, append-assoc}
+use mathlib.Core.Bool.{true, false, _&&_}
+use mathlib.Core.List.{List, [], _∷_, _++_, append-assoc}
 use Prim.Native.Nat.{ℕ, suc, _+_, _≤_, _<_}
 use native.Mathlib.Numerals.{add-one}
 use native.Mathlib.Nat.{suc-inj, add-zero}
@@ -14,7 +14,10 @@ use Rattle.model.specs.State.{pairs}
 use Rattle.model.specs.Collect.{hop}
 use Rattle.model.specs.Record.{Entry, elem-entry}
 use Rattle.records.specs.Pairs.{take-pairs}
-use Rattle.collectors.specs.Trail.{trail, Long, Added, Keeps, Hopped, way}
+use Rattle.collectors.specs.declared.path.Way.{Way}
+use Rattle.collectors.specs.declared.got.Children.{Children}
+use Rattle.collectors.specs.Trail.{trail, elems, Long, Added, Keeps, Hopped, way}
+use Rattle.collectors.specs.Gets.{ways, left}
 
 -- a pair behind pairs
 pairs-more : (a b : List ℕ) (x y : ℕ) → length a ≡ length b → pairs (a ++ (x ∷ [])) (b ++ (y ∷ [])) ≡ pairs a b ++ ((x, y) ∷ [])
@@ -61,9 +64,9 @@ module _ {ops args : List ℕ} (L : Long ops args) {n : ℕ} where
   added-keeps {op} {arg} h A = behind-keeps (n + 1) ((op, arg) ∷ []) (omega arith) h (A .items)
 
   -- and a hop, with what is kept behind it
-  pub hop-keeps : {ops₁ args₁ ops₂ args₂ : List ℕ} {full : Bool} {k v i m : ℕ} → n ≤ 130 → Hopped ops args ops₁ args₁ n full k v i m
+  pub hop-keeps : {ops₁ args₁ ops₂ args₂ : List ℕ} {w : Way} {m : ℕ} → n ≤ 130 → Hopped ops args ops₁ args₁ n w m
       → Keeps ops₁ args₁ ops₂ args₂ m → Keeps ops args ops₂ args₂ n
-  hop-keeps {full} {k} {v} {i} {m} h H K = behind-keeps m (map elem-entry (hop full k v i)) (H .low) h (K .items ∙ H .items)
+  hop-keeps {w} {m} h H K = behind-keeps m (elems w (w .child)) (H .low) h (K .items ∙ H .items)
 
 -- where the path leads from, it leads on
 pub keeps-then : {a b a₁ b₁ a₂ b₂ : List ℕ} {n : ℕ} → Keeps a b a₁ b₁ n → Keeps a₁ b₁ a₂ b₂ n → Keeps a b a₂ b₂ n
@@ -74,40 +77,40 @@ pub keeps-none : {a b : List ℕ} {n : ℕ} → Keeps a b a b n
 keeps-none = record { items = refl }
 
 -- the three ways of a hop
-module _ {ops args ops′ args′ : List ℕ} {n : ℕ} {full : Bool} {k v i r : ℕ} where
+module _ {ops args ops′ args′ : List ℕ} {n : ℕ} {w : Way} {r : ℕ} where
   -- through a pointer
-  pub hop-deref : pointer k ≡ true → Added ops args ops′ args′ n 1 0 → r ≡ n + 1 → Hopped ops args ops′ args′ n full k v i r
+  pub hop-deref : pointer (w .kind) ≡ true → Added ops args ops′ args′ n 1 0 → r ≡ n + 1 → Hopped ops args ops′ args′ n w r
   unfolding hop elem-entry
   hop-deref p e d = record { low = omega arith; high = omega arith; items = rw (d, p) (e .items) }
 
   -- to a field
-  pub hop-field : pointer k ≡ false → full && eqb k 7 ≡ false → Added ops args ops′ args′ n 2 i → r ≡ n + 1
-      → Hopped ops args ops′ args′ n full k v i r
+  pub hop-field : pointer (w .kind) ≡ false → w .full && eqb (w .kind) 7 ≡ false → Added ops args ops′ args′ n 2 (w .child) → r ≡ n + 1
+      → Hopped ops args ops′ args′ n w r
   unfolding hop elem-entry
   hop-field p f e d = record { low = omega arith; high = omega arith; items = rw (d, p, f) (e .items) }
 
   -- to a variant's field
-  pub hop-cast : {ops₁ args₁ : List ℕ} → pointer k ≡ false → full && eqb k 7 ≡ true → Added ops args ops₁ args₁ n 3 v
-      → Added ops₁ args₁ ops′ args′ (n + 1) 2 i → r ≡ n + 2 → Hopped ops args ops′ args′ n full k v i r
+  pub hop-cast : {ops₁ args₁ : List ℕ} → pointer (w .kind) ≡ false → w .full && eqb (w .kind) 7 ≡ true → Added ops args ops₁ args₁ n 3 (w .variant)
+      → Added ops₁ args₁ ops′ args′ (n + 1) 2 (w .child) → r ≡ n + 2 → Hopped ops args ops′ args′ n w r
   unfolding hop elem-entry
   hop-cast p f e g d =
       let two : r ≡ n + 1 + 1 = omega arith in
+      let add : List Entry → List Entry = λ l. l ++ ((2, w .child) ∷ []) in
       record {
         low = omega arith;
         high = omega arith;
-        items = rw (two, p, f) (g .items ∙ ap (λ (l : List Entry). l ++ ((2, i) ∷ [])) (e .items) ∙ append-assoc (trail ops args n) ((3, v) ∷ []) ((2, i) ∷ []));
+        items = rw (two, p, f) (g .items ∙ ap add (e .items) ∙ append-assoc (trail ops args n) ((3, w .variant) ∷ []) ((2, w .child) ∷ []));
       }
 
--- the way to the child x
-pub way-first : {ops args ops′ args′ : List ℕ} {n : ℕ} {full : Bool} {k v x m : ℕ} → Hopped ops args ops′ args′ n full k v x m
-    → way (trail ops args n) full k v x 0 ≡ trail ops′ args′ m
+-- the way to the child
+pub way-first : {ops args ops′ args′ : List ℕ} {n : ℕ} {w : Way} {m : ℕ} → Hopped ops args ops′ args′ n w m → way (trail ops args n) w 0 ≡ trail ops′ args′ m
 unfolding way
-way-first {ops} {args} {n} {full} {k} {v} {x} H = ap (λ (i : ℕ). trail ops args n ++ map elem-entry (hop full k v i)) (add-zero x) ∙ sym (H .items)
+way-first {ops} {args} {n} {w} H = ap (λ (i : ℕ). trail ops args n ++ elems w i) (add-zero (w .child)) ∙ sym (H .items)
 
 -- and to those behind it
-pub way-next : {ops args ops′ args′ : List ℕ} {n : ℕ} → Keeps ops args ops′ args′ n → (full : Bool) (k v x i : ℕ)
-    → way (trail ops args n) full k v x (suc i) ≡ way (trail ops′ args′ n) full k v (x + 1) i
+pub way-next : {ops args ops′ args′ : List ℕ} (k : Children) (a b : ℕ) → Keeps ops args ops′ args′ (k .depth)
+    → (i : ℕ) → ways ops args k (suc i) ≡ ways ops′ args′ (left k a b) i
 unfolding way
-way-next K full k v x i =
-    let same : x + suc i ≡ x + 1 + i = omega arith in
-    ap₂ (λ (q : List Entry) (j : ℕ). q ++ map elem-entry (hop full k v j)) (sym (K .items)) same
+way-next k a b K i =
+    let same : k .way .child + suc i ≡ k .way .child + 1 + i = omega arith in
+    ap₂ (λ (q : List Entry) (j : ℕ). q ++ elems (k .way) j) (sym (K .items)) same

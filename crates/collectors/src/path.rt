@@ -1,7 +1,7 @@
 // The place of the node that a collector stands at: a root and elements, in two lent arrays.
-ghost use mathlib.Core.Path.{_≡_};
 ghost use Prim.Native.Nat.{_+_, _≤_, _<_};
-ghost use Rattle.collectors.specs.Trail.{Long, Added, Hopped};
+ghost use Rattle.moments.specs.Lent.{was, after};
+ghost use Rattle.collectors.specs.Trail.{Long, Short, Added, Hopped};
 use statements::small;
 use type_record::kinds::pointer;
 
@@ -10,38 +10,38 @@ pub fn set_item(ops: &mut [u32], args: &mut [u32], n: usize, op: u32, arg: usize
     requires { ⌜ Long (now ops) (now args) ⌝ }
     requires { ⌜ n < 130 ⌝ }
     requires { ⌜ arg < 4294967296 ⌝ }
-    ensures { λ r. ⌜ Added (now (ops .entry)) (now (args .entry)) (now (ops .exit)) (now (args .exit)) n op arg ⌝ }
+    ensures { λ r. ⌜ Added (was ops) (was args) (after ops) (after args) n op arg ⌝ }
 {
     ops[n] = op;
     args[n] = small(arg);
 }
 
-// The way from a node of kind k, open at variant v, to its child i; full: below an enum the variant is named. The length after.
-pub fn hop(
-    ops: &mut [u32],
-    args: &mut [u32],
-    n: usize,
-    full: bool,
-    k: u32,
-    v: usize,
-    i: usize,
-) -> usize
+// From a node of this kind, open at this variant, to one of its children; full: below an enum the variant is named.
+pub struct Way {
+    pub full: bool,
+    pub kind: u32,
+    pub variant: usize,
+    pub child: usize,
+}
+
+// The way w behind the first n items. The length after.
+pub fn hop(ops: &mut [u32], args: &mut [u32], n: usize, w: Way) -> usize
     requires { ⌜ Long (now ops) (now args) ⌝ }
     requires { ⌜ n + 2 ≤ 130 ⌝ }
-    requires { ⌜ (v < 4294967296) × (i < 4294967296) ⌝ }
-    ensures { λ r. ⌜ Hopped (now (ops .entry)) (now (args .entry)) (now (ops .exit)) (now (args .exit)) n full k v i r ⌝ }
+    requires { ⌜ Short w ⌝ }
+    ensures { λ r. ⌜ Hopped (was ops) (was args) (after ops) (after args) n w r ⌝ }
 {
-    if pointer(k) {
+    if pointer(w.kind) {
         set_item(ops, args, n, 1, 0);
         return n + 1;
     }
-    if full {
-        if k == 7 {
-            set_item(ops, args, n, 3, v);
-            set_item(ops, args, n + 1, 2, i);
+    if w.full {
+        if w.kind == 7 {
+            set_item(ops, args, n, 3, w.variant);
+            set_item(ops, args, n + 1, 2, w.child);
             return n + 2;
         }
     }
-    set_item(ops, args, n, 2, i);
+    set_item(ops, args, n, 2, w.child);
     n + 1
 }

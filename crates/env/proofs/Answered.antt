@@ -10,17 +10,10 @@ use Rattle.model.specs.Calls.{recorded-as}
 use Rattle.records.specs.Here.{Holds}
 use Rattle.state.specs.Value.{value}
 use Rattle.state.specs.declared.nodes.State.{State}
-use Rattle.walk.specs.Site.{refusal-of}
-use Rattle.walk.specs.declared.along.Walked.{Walked}
-use Rattle.walk.specs.declared.along.Walked.the-variants.{Refused as Halted}
 use Rattle.env.specs.declared.project.Projected.the-variants.{Refused}
 use Rattle.env.specs.declared.project.Usage.{Usage}
 use Rattle.env.specs.declared.project.Outcome.the-variants.{Fine, Refused as Denied}
 use Rattle.env.specs.Answers.{recorded, projected, Projects, outcome, Moves}
-
--- a walk that is refused, by its refusal
-pub walked-refused : {w : Walked} {n r : ℕ} → w ≡ Halted n → r ≡ refusal-of w → w ≡ Halted r
-walked-refused d e = d ∙ ap Halted (sym (e ∙ ap refusal-of d))
 
 module _ {Γ locals : List ℕ} {s : State} where
   -- a refusal gives the state back

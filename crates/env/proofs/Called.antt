@@ -1,13 +1,13 @@
 -- The calls for users: their answers, by what the tests and the calls within a run find.
 use mathlib.Core.Path.{_≡_, refl, sym, _∙_, ap}
 use mathlib.Core.Logic.{_≢_}
-use mathlib.Core.Bool.{Bool, true, false}
+use mathlib.Core.Bool.{Bool, true}
 use mathlib.Core.List.{List}
 use mathlib.Core.Option.{some}
 use Prim.Native.Nat.{ℕ}
 use native.Mathlib.Omega.{arith}
 use lib.ListN.{length}
-use Rattle.model.specs.Answer.{Answer, refused, done, _>>=_, require}
+use Rattle.model.specs.Answer.{Answer, refused, done, _>>=_}
 use Rattle.model.specs.Types.{types-ok}
 use Rattle.model.specs.Tree.{Forest}
 use Rattle.model.specs.State as Model
@@ -20,21 +20,19 @@ use Rattle.base.specs.Answer.{split-answer, good-at}
 use Rattle.laws.specs.Refusals.{Only, only-at}
 use Rattle.calls.specs.Numbers.{projection-refuses}
 use Rattle.calls.specs.Used.{call-used}
-use Rattle.mir.specs.Parts.{Spotted}
-use Rattle.records.specs.Here.{Holds}
 use Rattle.records.specs.Encode.{decode-holds}
 use Rattle.records.specs.Holds.{holds-encode}
 use Rattle.state.specs.Value.{value}
 use Rattle.state.specs.declared.nodes.State.{State}
 use Rattle.env.specs.declared.project.Projected.the-variants.{Refused}
 use Rattle.env.specs.declared.project.Usage.{Usage}
-use Rattle.env.specs.declared.project.Outcome.the-variants.{Refused as Denied}
 use Rattle.env.specs.declared.project.Moved.{Moved}
-use Rattle.env.specs.Answers.{recorded, Projects, Moves, call-recorded, Records, call-outcome, Gives, Uses, Refuses}
-use Rattle.env.specs.Given.{Given}
+use Rattle.env.specs.Answers.{recorded, Projects, Moves, call-recorded, Records, refusal, call-outcome, Gives, Uses, Refuses}
+use Rattle.env.specs.There.{Wherever, Projects-there}
+use Rattle.env.specs.Given.{Asked}
 use Rattle.env.specs.Tested.{Tested}
 
-module _ {Γ locals os : List ℕ} {s : Model.State} {ops args : List ℕ} {r : ℕ} (t : Tested Γ locals os s ops args r) where
+module _ {Γ locals os : List ℕ} {s : Model.State} {ops args : List ℕ} {ok : Spot → Bool} {r : ℕ} (t : Tested Γ locals os s ops args ok r) where
   -- the types and the local types pass
   tested-types : r ≡ 0 → (types-ok Γ ≡ true) × (locals-ok Γ locals ≡ true)
   tested-types z =
@@ -42,19 +40,17 @@ module _ {Γ locals os : List ℕ} {s : Model.State} {ops args : List ℕ} {r : 
       (λ a. split (locals-ok Γ locals) (λ b. (a, b)) (λ b. let no : _≡_ {A = ℕ} 0 3 = cc (t .answer) in absurd (omega arith)))
       (λ a. let no : _≡_ {A = ℕ} 0 1 = cc (t .answer) in absurd (omega arith))
 
-  -- the local types pass
-  pub tested-locals : r ≡ 0 → locals-ok Γ locals ≡ true
-  tested-locals z = tested-types z .1
-
-  -- the state is read, and the items are a place
-  tested-both : r ≡ 0 → (E : Forest) × (q : Spot) × (decode Γ locals s ≡ some E) × (spot-of ops args ≡ some q)
+  -- the state is read, and the items are a place that passes
+  tested-both : r ≡ 0 → (E : Forest) × (q : Spot) × (decode Γ locals s ≡ some E) × (spot-of ops args ≡ some q) × (ok q ≡ true)
   tested-both z =
       let (a, b) = tested-types z in
       split-option (decode Γ locals s)
       (λ d. let no : _≡_ {A = ℕ} 0 3 = cc (t .answer) in absurd (omega arith))
-      (λ E d. split-option (spot-of ops args) (λ p. let no : _≡_ {A = ℕ} 0 4 = cc (t .answer) in absurd (omega arith)) (λ q p. (E, q, d, p)))
+      (λ E d. split-option (spot-of ops args)
+      (λ p. let no : _≡_ {A = ℕ} 0 4 = cc (t .answer) in absurd (omega arith))
+      (λ q p. split (ok q) (λ k. (E, q, d, p, k)) (λ k. let no : _≡_ {A = ℕ} 0 4 = cc (t .answer) in absurd (omega arith))))
 
-  module _ {A : Type 0} (ok : Spot → Bool) (f : Forest → Spot → Answer A) where
+  module _ {A : Type 0} (f : Forest → Spot → Answer A) where
     -- a test stops the call
     call-stops : r ≢ 0 → typed Γ locals (λ _. taken Γ locals s (λ E. placed ok ops args (f E))) ≡ refused r
     unfolding typed taken placed
@@ -65,15 +61,24 @@ module _ {Γ locals os : List ℕ} {s : Model.State} {ops args : List ℕ} {r : 
         (λ d. rw (a, b, d, taken) (ap refused (sym (cc (t .answer)))))
         (λ E d. split-option (spot-of ops args)
         (λ p. rw (a, b, d, taken, p, placed) (ap refused (sym (cc (t .answer)))))
-        (λ q p. absurd (n (cc (t .answer))))))
+        (λ q p. split (ok q)
+        (λ k. absurd (n (cc (t .answer))))
+        (λ k. rw (a, b, d, taken, p, placed, k) (ap refused (sym (cc (t .answer))))))))
         (λ b. rw (a, b) (ap refused (sym (cc (t .answer))))))
         (λ a. rw a (ap refused (sym (cc (t .answer)))))
 
-    -- it goes on to the limits of the place
-    call-goes : r ≡ 0 → {E : Forest} {q : Spot} → decode Γ locals s ≡ some E → spot-of ops args ≡ some q
-        → typed Γ locals (λ _. taken Γ locals s (λ E. placed ok ops args (f E))) ≡ require (ok q) 4 (λ _. f E q)
+    -- it goes on with the state and the place
+    call-goes : r ≡ 0 → {E : Forest} {q : Spot} → decode Γ locals s ≡ some E → spot-of ops args ≡ some q → ok q ≡ true
+        → typed Γ locals (λ _. taken Γ locals s (λ E. placed ok ops args (f E))) ≡ f E q
     unfolding typed taken placed
-    call-goes z d p = let (a, b) = tested-types z in rw (a, b, d, taken, p, placed)
+    call-goes z d p k = let (a, b) = tested-types z in rw (a, b, d, taken, p, placed, k)
+
+-- what the calls within a run ask of the input
+pub tested-input : {Γ locals os : List ℕ} {s : State} {ops args : List ℕ} {ok : Spot → Bool} {r : ℕ} → Tested Γ locals os (value s) ops args ok r → r ≡ 0
+    → Asked Γ os locals s ops args ok
+tested-input {Γ} {locals} {s = s} t z =
+    let (E, q, d, p, k) = tested-both t z in
+    (t .ready z, (tested-types t z .1, record { state = E; holds = decode-holds Γ locals (value s) E d; spot = q; is = p; passes = k }))
 
 -- THE ANSWERS
 
@@ -84,14 +89,6 @@ shown Γ r = done (recorded-as (r .1), encode Γ (r .0))
 -- a state, as the call gives it
 abbrev given-back : List ℕ → Forest → Answer Model.State
 given-back Γ D = done (encode Γ D)
-
--- a refusal gives the state back
-records-refused : {s : State} {a : Answer (Recorded × Model.State)} {n : ℕ} → a ≡ refused n → Records s a (record { answer = Refused n; state = s })
-records-refused e = record { answer = ap call-recorded (sym e); moved = λ w d. clash (cc); kept = λ n d. refl }
-
--- of the other calls too
-gives-refused : {s : State} {a : Answer Model.State} {n : ℕ} → a ≡ refused n → Gives s a (record { answer = Denied n; state = s })
-gives-refused e = record { answer = ap call-outcome (sym e); moved = λ m d. clash (cc); kept = λ n d. refl }
 
 module _ {Γ locals : List ℕ} {s : State} where
   -- a projection of a state that is held is the call's
@@ -124,61 +121,7 @@ module _ {Γ locals : List ℕ} {s : State} where
         kept = λ j c. clash (cc);
       })
 
-module _ {Γ locals os : List ℕ} {s : State} {ops args : List ℕ} {r : ℕ} (t : Tested Γ locals os (value s) ops args r) where
-  -- the items are a place
-  pub tested-spotted : r ≡ 0 → Spotted ops args
-  tested-spotted z = let (E, q, d, p) = tested-both t z in record { spot = q; is = p }
-
-  -- the state and the place are given
-  pub tested-given : r ≡ 0 → (ok : Spot → Bool) → ((q : Spot) → spot-of ops args ≡ some q → ok q ≡ true) → Given Γ locals s ops args ok
-  tested-given z ok k = let (E, q, d, p) = tested-both t z in record { state = E; holds = decode-holds Γ locals (value s) E d; spot = q; is = p; passes = k q p }
-
-  -- a test stops the projection
-  pub projection-stops : r ≢ 0 → Records s (call-projection Γ locals (value s) ops args) (record { answer = Refused r; state = s })
-  unfolding call-projection
-  projection-stops n = records-refused (call-stops t (used-ok (length locals)) (λ E q. projection Γ q E >>= shown Γ) n)
-
-  -- its place is beyond its limits
-  pub projection-barred : r ≡ 0 → ((q : Spot) → spot-of ops args ≡ some q → used-ok (length locals) q ≡ false)
-      → Records s (call-projection Γ locals (value s) ops args) (record { answer = Refused 4; state = s })
-  unfolding call-projection
-  projection-barred z k =
-      let (E, q, d, p) = tested-both t z in
-      records-refused (call-goes t (used-ok (length locals)) (λ E q. projection Γ q E >>= shown Γ) z d p ∙ rw (k q p))
-
-  -- it is within them, and the projection is done
-  pub projection-goes : r ≡ 0 → ((q : Spot) → spot-of ops args ≡ some q → used-ok (length locals) q ≡ true) → {u : Usage}
-      → ((E : Forest) (q : Spot) → Holds Γ locals (value s) E → spot-of ops args ≡ some q → Projects Γ locals s (projection Γ q E) u)
-      → Records s (call-projection Γ locals (value s) ops args) u
-  unfolding call-projection
-  projection-goes z k P =
-      let (E, q, d, p) = tested-both t z in
-      records-of (call-goes t (used-ok (length locals)) (λ E q. projection Γ q E >>= shown Γ) z d p ∙ rw (k q p)) (P E q (decode-holds Γ locals (value s) E d) p)
-
-  -- the other calls
-  module _ (ok : Spot → Bool) (a : Forest → Spot → Answer Forest) where
-    -- the call, by its test of the place and by what it does with a state
-    abbrev pub call : Answer Model.State
-    call = typed Γ locals (λ _. taken Γ locals (value s) (λ E. placed ok ops args (λ q. a E q >>= given-back Γ)))
-
-    -- a test stops it
-    pub gives-stops : r ≢ 0 → Gives s call (record { answer = Denied r; state = s })
-    gives-stops n = gives-refused (call-stops t ok (λ E q. a E q >>= given-back Γ) n)
-
-    -- the place is beyond its limits
-    pub gives-barred : r ≡ 0 → ((q : Spot) → spot-of ops args ≡ some q → ok q ≡ false) → Gives s call (record { answer = Denied 4; state = s })
-    gives-barred z k =
-        let (E, q, d, p) = tested-both t z in
-        gives-refused (call-goes t ok (λ E q. a E q >>= given-back Γ) z d p ∙ rw (k q p))
-
-    -- it is done
-    pub gives-goes : r ≡ 0 → ((q : Spot) → spot-of ops args ≡ some q → ok q ≡ true) → {m : Moved}
-        → ((E : Forest) (q : Spot) → Holds Γ locals (value s) E → spot-of ops args ≡ some q → Moves Γ locals s (a E q) m) → Gives s call m
-    gives-goes z k P =
-        let (E, q, d, p) = tested-both t z in
-        gives-of (call-goes t ok (λ E q. a E q >>= given-back Γ) z d p ∙ rw (k q p)) (P E q (decode-holds Γ locals (value s) E d) p)
-
--- WHAT IS PROMISED follows
+-- A PROJECTION
 
 -- what is recorded is told by the answer
 recorded-one : (v w : Recorded) → recorded v ≡ recorded w → v ≡ w
@@ -198,22 +141,60 @@ recorded-goes nothing n e = clash (cc)
 recorded-goes fold n e = clash (cc)
 recorded-goes (unfold-at m) n e = clash (cc)
 
--- of a projection
-pub projection-promised : (Γ locals : List ℕ) (s : State) (ops args : List ℕ) {r : Usage} → Records s (call-projection Γ locals (value s) ops args) r
-    → Records s (call-projection Γ locals (value s) ops args) r × Uses Γ locals s ops args r
-projection-promised Γ locals s ops args {r} R =
-    let a = call-projection Γ locals (value s) ops args in (
-      R,
-      record {
-        numbered = λ n h. split-answer a
-            (λ k d. only-at (projection-refuses Γ locals (value s) ops args) (cc (R .answer)))
-            (λ w d. recorded-goes (w .0) n (cc (R .answer)));
-        used = λ v h. split-answer a
-            (λ k d. recorded-goes v k (cc (R .answer)))
-            (λ w d. let f : w .0 ≡ v = recorded-one (w .0) v (cc (R .answer)) in rw (← f, R .moved w d) (good-at (call-used Γ locals (value s) ops args) d));
-      },
-    )
+module _ (Γ locals : List ℕ) (s : State) (ops args : List ℕ) where
+  -- what is promised of a projection follows
+  abbrev Promised : Usage → Type 0
+  Promised u = Records s (call-projection Γ locals (value s) ops args) u × Uses Γ locals s ops args u
 
--- of the other calls
-pub gives-promised : {ns : List ℕ} {s : State} {a : Answer Model.State} {r : Moved} → Only ns a → Gives s a r → Gives s a r × Refuses ns r
-gives-promised {a} o G = (G, λ n h. split-answer a (λ k d. only-at o (cc (G .answer))) (λ w d. clash (cc (G .answer))))
+  projection-promised : {u : Usage} → Records s (call-projection Γ locals (value s) ops args) u → Promised u
+  projection-promised R =
+      let a = call-projection Γ locals (value s) ops args in (
+        R,
+        record {
+          numbered = λ n h. split-answer a
+              (λ k d. only-at (projection-refuses Γ locals (value s) ops args) (cc (R .answer)))
+              (λ w d. recorded-goes (w .0) n (cc (R .answer)));
+          used = λ v h. split-answer a
+              (λ k d. recorded-goes v k (cc (R .answer)))
+              (λ w d. let f : w .0 ≡ v = recorded-one (w .0) v (cc (R .answer)) in rw (← f, R .moved w d) (good-at (call-used Γ locals (value s) ops args) d));
+        },
+      )
+
+  module _ {os : List ℕ} {r : ℕ} (t : Tested Γ locals os (value s) ops args (used-ok (length locals)) r) where
+    -- a test stops the projection
+    pub projection-stops : r ≢ 0 → Promised (record { answer = Refused r; state = s })
+    unfolding call-projection
+    projection-stops n =
+        let e = call-stops t (λ E q. projection Γ q E >>= shown Γ) n in
+        projection-promised (record { answer = ap call-recorded (sym e); moved = λ w d. clash (cc); kept = λ n d. refl })
+
+    -- it is done
+    pub projection-goes : r ≡ 0 → {u : Usage} → Projects-there Γ locals s ops args u → Promised u
+    unfolding call-projection
+    projection-goes z P =
+        let (E, q, d, p, k) = tested-both t z in
+        projection-promised (records-of (call-goes t (λ E q. projection Γ q E >>= shown Γ) z d p k) (P E q (decode-holds Γ locals (value s) E d) p))
+
+-- THE OTHER CALLS
+
+-- a call that gives a state alone, by its test of the place and by what it does with a state
+abbrev pub call : (Γ locals : List ℕ) → State → (ops args : List ℕ) → (Spot → Bool) → (Spot → Forest → Answer Forest) → Answer Model.State
+call Γ locals s ops args ok a = typed Γ locals (λ _. taken Γ locals (value s) (λ E. placed ok ops args (λ q. a q E >>= given-back Γ)))
+
+module _ {Γ locals os : List ℕ} {s : State} {ops args : List ℕ} {ok : Spot → Bool} {r : ℕ} (t : Tested Γ locals os (value s) ops args ok r)
+    (a : Spot → Forest → Answer Forest) {ns : List ℕ} (o : Only ns (call Γ locals s ops args ok a)) {m : Moved} where
+  -- the numbers with which it refuses
+  gives-promised : Gives s (call Γ locals s ops args ok a) m → Gives s (call Γ locals s ops args ok a) m × Refuses ns m
+  gives-promised G = (G, λ n h. split-answer (call Γ locals s ops args ok a) (λ k d. only-at o (cc (G .answer))) (λ w d. clash (cc (G .answer))))
+
+  -- a test stops it
+  pub gives-stops : r ≢ 0 → m ≡ refusal r s → Gives s (call Γ locals s ops args ok a) m × Refuses ns m
+  gives-stops n e =
+      let c = call-stops t (λ E q. a q E >>= given-back Γ) n in
+      gives-promised (rw e (record { answer = ap call-outcome (sym c); moved = λ w d. clash (cc); kept = λ n d. refl }))
+
+  -- it is done
+  pub gives-goes : r ≡ 0 → {l : Moved} → m ≡ l → Wherever Γ locals s ops args (λ E q. Moves Γ locals s (a q E) l) → Gives s (call Γ locals s ops args ok a) m × Refuses ns m
+  gives-goes z e P =
+      let (E, q, d, p, k) = tested-both t z in
+      gives-promised (rw e (gives-of (call-goes t (λ E q. a q E >>= given-back Γ) z d p k) (P E q (decode-holds Γ locals (value s) E d) p)))

@@ -12,10 +12,9 @@ use Rattle.model.specs.Answer.{Answer, refused, done}
 use Rattle.model.specs.Tree.{Tree, leaf, Forest, sizes}
 use Rattle.model.specs.Typing.{Fits}
 use Rattle.model.specs.State.{Code, levels, codess}
-use Rattle.model.specs.Place.{Elem, deref, field, downcast, index, Place, Spot, Unfold, steps, spot-ok, unfold-ok}
+use Rattle.model.specs.Place.{Elem, deref, field, downcast, index, Place, Spot, Unfold, steps, unfold-ok}
 use Rattle.model.specs.Walk.{walk, pick, carry, carry-at, cast-at, downcasting}
-use Rattle.model.specs.Collect.{firsts}
-use Rattle.model.specs.Calls.{spot-of, statement-at}
+use Rattle.model.specs.Calls.{statement-at}
 use Rattle.model.specs.Block.{elem-of}
 use Rattle.base.specs.Typed.{Typed}
 use Rattle.base.specs.Answer.{good-at}
@@ -30,7 +29,6 @@ use Rattle.state.specs.Value.{value}
 use Rattle.state.specs.declared.nodes.State.{State}
 use Rattle.walk.specs.Way.{acts}
 use Rattle.walk.specs.Fresh.{folded, Bud, distance, grows, trail}
-use Rattle.walk.specs.Site.{Site}
 use Rattle.walk.specs.Applied.{Encoded, tip, opening, Opens, Carried}
 use Rattle.walk.specs.declared.step.Fresh.{Fresh}
 use Rattle.walk.specs.declared.step.Opened.the-variants.{To, Refused}
@@ -51,21 +49,6 @@ use Rattle.env.proofs.States.{holds-encoded, encoded-holds, fitting-fit
 -- the walk w with another end
 abbrev pub ending : Walk → Fresh → Walk
 ending w g = record { walked = w .walked; passed = w .passed; node = w .node; typ = w .typ; fresh = g }
-
--- the walk has ended in the state E that is held
-abbrev pub sited-at : {Γ locals ops args : List ℕ} {s : State} (w : Walk) (E : Forest) (q : Spot) → Holds Γ locals (value s) E → spot-of ops args ≡ some q → spot-ok 64 (length locals) q ≡ true
-    → Site Γ (s .forms) (s .whats) ops args (sizes (firsts (q .local) E)) (q .place) (pick (q .local) E) w → Sited Γ s ops args w
-sited-at {locals = locals} w E q h is ok S =
-    record {
-      locals = locals;
-      state = E;
-      holds = h;
-      spot = q;
-      is = is;
-      known = spot-limited (length locals) q 64 ok .known;
-      short = spot-limited (length locals) q 64 ok .short;
-      site = S;
-    }
 
 module _ {Γ ops args : List ℕ} {s : State} {w : Walk} (h : Typed Γ) (d : Sited Γ s ops args w) where
   -- the elements walked

@@ -1,6 +1,8 @@
 -- The laws that the proofs of env share. In the order in which they build on each other:
 -- places within their limits, and the states and places that are given
 pub mod Limits
+-- a walk, which is refused or has ended
+pub mod Walked
 -- answers, by what model's are
 pub mod Answered
 -- states and their codes; a walk in one tree, as a walk in a state

@@ -58,10 +58,14 @@ module _ (locals : ℕ) (q : Spot) where
   unfolding used-ok unfold-ok
   used-unfolds h = and-left (spot-ok 63 locals q) (usable (q .place)) h
 
-  -- and folded
+  -- so it is walkable
+  pub used-walks : used-ok locals q ≡ true → spot-ok 64 locals q ≡ true
+  used-walks h = unfold-walks (used-unfolds h)
+
+  -- and may be folded
   pub used-folds : used-ok locals q ≡ true → fold-ok locals q ≡ true
   unfolding used-ok fold-ok
-  used-folds h = and-both (unfold-walks (used-unfolds h)) (and-right (spot-ok 63 locals q) (usable (q .place)) h)
+  used-folds h = and-both (used-walks h) (and-right (spot-ok 63 locals q) (usable (q .place)) h)
 
 module _ {Γ locals : List ℕ} {s : State} {ops args : List ℕ} {ok : Spot → Bool} (g : Given Γ locals s ops args ok) where
   -- another test

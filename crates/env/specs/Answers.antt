@@ -105,7 +105,11 @@ abbrev pub call-outcome : Answer Model.State → Outcome
 call-outcome (refused n) = Denied n
 call-outcome (done m) = Fine
 
--- the same of a call that gives a state alone
+-- a refusal of a call that gives a state alone gives it back as it came
+abbrev pub refusal : ℕ → State → Moved
+refusal n s = record { answer = Denied n; state = s }
+
+-- the answer of such a call is model's a
 pub record Gives (s : State) (a : Answer Model.State) (r : Moved) : Type 0 where
   pub answer : r .answer ≡ call-outcome a
   pub moved : (m : Model.State) → a ≡ done m → value (r .state) ≡ m

@@ -2,3 +2,4 @@
 pub mod Given
 pub mod Tested
 pub mod Answers
+pub mod There

@@ -1,15 +1,15 @@
 // The walk along a place, and what is done with it. The calls for users stand here.
 ghost use mathlib.Core.Path.{_≡_};
-ghost use mathlib.Core.Option.{some};
 ghost use Prim.Native.Nat.{_≤_};
 ghost use lib.ListN.{length};
-ghost use Rattle.model.specs.Place.{Spot, Fold, Unfold, fold-ok};
+ghost use Rattle.moments.specs.Lent.{was, after};
+ghost use Rattle.model.specs.Place.{Fold, Unfold, fold-ok};
 ghost use Rattle.model.specs.Calls.{spot-of, call-projection, call-downcast, call-carry};
 ghost use Rattle.model.specs.Promised.{use-numbers, unfold-numbers};
 ghost use Rattle.mir.specs.Parts.{Spotted};
 ghost use Rattle.state.specs.Value.{value};
-ghost use Rattle.env.specs.Answers.{Records, Gives, Uses, Refuses};
-ghost use Rattle.env.specs.Tested.{Tested};
+ghost use Rattle.env.specs.Answers.{moved-in, refusal, Records, Gives, Uses, Refuses};
+ghost use Rattle.env.specs.Tested.{limits, Tells, passes, Tested};
 
 pub mod open;
 pub mod project;
@@ -20,13 +20,46 @@ use blocks::place::usable;
 use blocks::place::used_ok;
 use input::check_given;
 use input::check_locals;
+use project::Change;
 use project::Moved;
 use project::Outcome;
 use project::Projected;
 use project::Usage;
 use state::nodes::State;
 
-// The types, the local types, the state, then the items of the place: 0, or refusal 1, 3 or 4.
+// What a call does with its place, which says the limits of the place.
+enum Aim {
+    Uses,
+    Folds,
+    Unfolds,
+}
+
+// The place of a fold: as one that is used, with one step more.
+fn fold_ok(ops: &[u32], args: &[u32], locals: usize) -> bool
+    requires { ⌜ Spotted (now ops) (now args) ⌝ }
+    ensures { λ r. ⌜ Tells (was ops) (was args) (fold-ok locals) r ⌝ }
+{
+    if !spot_ok(ops, args, locals, 64) {
+        return false;
+    }
+    usable(ops, args)
+}
+
+// Are the items a place within the limits of the aim?
+fn place_ok(ops: &[u32], args: &[u32], locals: usize, aim: Aim) -> bool
+    ensures { λ r. ⌜ r ≡ passes (limits aim locals) (spot-of (was ops) (was args)) ⌝ }
+{
+    if !is_place(ops, args) {
+        return false;
+    }
+    match aim {
+        Aim::Uses => used_ok(ops, args, locals),
+        Aim::Folds => fold_ok(ops, args, locals),
+        Aim::Unfolds => spot_ok(ops, args, locals, 63),
+    }
+}
+
+// The types, the local types, the state, then the place: 0, or refusal 1, 3 or 4.
 fn check_use(
     types: &[u32],
     offs: &mut [u32],
@@ -34,9 +67,10 @@ fn check_use(
     s: State,
     ops: &[u32],
     args: &[u32],
+    aim: Aim,
 ) -> u32
     requires { ⌜ 4096 ≤ length (now offs) ⌝ }
-    ensures { λ r. ⌜ Tested (now (types .entry)) (now (locals .entry)) (now (offs .exit)) (value s) (now (ops .entry)) (now (args .entry)) r ⌝ }
+    ensures { λ r. ⌜ Tested (was types) (was locals) (after offs) (value s) (was ops) (was args) (limits aim (length (was locals))) r ⌝ }
 {
     let a = check_locals(types, locals, offs);
     if a != 0 {
@@ -45,18 +79,35 @@ fn check_use(
     if check_given(types, offs, locals, s) != 0 {
         return 3;
     }
-    if is_place(ops, args) { 0 } else { 4 }
+    if !place_ok(ops, args, locals.len(), aim) {
+        return 4;
+    }
+    0
 }
 
-// The place of a fold: as one that is used, with one step more.
-fn fold_ok(ops: &[u32], args: &[u32], locals: usize) -> bool
-    requires { ⌜ Spotted (now ops) (now args) ⌝ }
-    ensures { λ r. ⌜ ((q : Spot) → spot-of (now (ops .entry)) (now (args .entry)) ≡ some q → r ≡ fold-ok locals q) ⌝ }
+// A refusal gives the state back as it came.
+fn refused(n: u32, s: State) -> Moved
+    ensures { λ r. ⌜ r ≡ refusal n s ⌝ }
 {
-    if !spot_ok(ops, args, locals, 64) {
-        return false;
+    Moved {
+        answer: Outcome::Refused(n),
+        state: s,
     }
-    usable(ops, args)
+}
+
+// The answer of a call in lent arrays, with the state that they have then.
+fn moved(c: Change, forms: [u16; 512], whats: [u16; 512]) -> Moved
+    ensures { λ r. ⌜ r ≡ moved-in c forms whats ⌝ }
+{
+    let answer = c.answer;
+    Moved {
+        answer,
+        state: State {
+            forms,
+            whats,
+            nodes: c.nodes,
+        },
+    }
 }
 
 // `Env::projection`: the place is used. What is recorded, and the state after; a refusal gives the state back as it came.
@@ -65,16 +116,10 @@ pub fn projection(types: &[u32], locals: &[u32], s: State, ops: &[u32], args: &[
     ensures promised { λ r. ⌜ Uses (now (types .entry)) (now (locals .entry)) s (now (ops .entry)) (now (args .entry)) r ⌝ }
 {
     let mut offs = [0u32; 4096];
-    let r = check_use(types, &mut offs, locals, s, ops, args);
+    let r = check_use(types, &mut offs, locals, s, ops, args, Aim::Uses);
     if r != 0 {
         return Usage {
             answer: Projected::Refused(r),
-            state: s,
-        };
-    }
-    if !used_ok(ops, args, locals.len()) {
-        return Usage {
-            answer: Projected::Refused(4),
             state: s,
         };
     }
@@ -91,12 +136,14 @@ pub fn projection(types: &[u32], locals: &[u32], s: State, ops: &[u32], args: &[
         args,
     );
     let answer = u.answer;
-    let state = State {
-        forms,
-        whats,
-        nodes: u.nodes,
-    };
-    Usage { answer, state }
+    Usage {
+        answer,
+        state: State {
+            forms,
+            whats,
+            nodes: u.nodes,
+        },
+    }
 }
 
 // `Env::downcast`: walk the place, then downcast to the variant.
@@ -112,22 +159,13 @@ pub fn downcast(
     ensures promised { λ r. ⌜ Refuses use-numbers r ⌝ }
 {
     let mut offs = [0u32; 4096];
-    let r = check_use(types, &mut offs, locals, s, ops, args);
+    let r = check_use(types, &mut offs, locals, s, ops, args, Aim::Uses);
     if r != 0 {
-        return Moved {
-            answer: Outcome::Refused(r),
-            state: s,
-        };
-    }
-    if !used_ok(ops, args, locals.len()) {
-        return Moved {
-            answer: Outcome::Refused(4),
-            state: s,
-        };
+        return refused(r, s);
     }
     let mut forms = s.forms;
     let mut whats = s.whats;
-    let u = open::downcast(
+    let c = open::downcast(
         types,
         &offs,
         locals,
@@ -138,13 +176,7 @@ pub fn downcast(
         args,
         variant,
     );
-    let answer = u.answer;
-    let state = State {
-        forms,
-        whats,
-        nodes: u.nodes,
-    };
-    Moved { answer, state }
+    moved(c, forms, whats)
 }
 
 // Carries out a fold: walk the place, then fold the node.
@@ -153,22 +185,13 @@ pub fn fold(types: &[u32], locals: &[u32], s: State, ops: &[u32], args: &[u32]) 
     ensures promised { λ r. ⌜ Refuses use-numbers r ⌝ }
 {
     let mut offs = [0u32; 4096];
-    let r = check_use(types, &mut offs, locals, s, ops, args);
+    let r = check_use(types, &mut offs, locals, s, ops, args, Aim::Folds);
     if r != 0 {
-        return Moved {
-            answer: Outcome::Refused(r),
-            state: s,
-        };
-    }
-    if !fold_ok(ops, args, locals.len()) {
-        return Moved {
-            answer: Outcome::Refused(4),
-            state: s,
-        };
+        return refused(r, s);
     }
     let mut forms = s.forms;
     let mut whats = s.whats;
-    let u = project::fold(
+    let c = project::fold(
         types,
         &offs,
         locals,
@@ -178,13 +201,7 @@ pub fn fold(types: &[u32], locals: &[u32], s: State, ops: &[u32], args: &[u32]) 
         ops,
         args,
     );
-    let answer = u.answer;
-    let state = State {
-        forms,
-        whats,
-        nodes: u.nodes,
-    };
-    Moved { answer, state }
+    moved(c, forms, whats)
 }
 
 // Carries out an unfold: walk the place; a folded node opens one level.
@@ -193,22 +210,13 @@ pub fn unfold(types: &[u32], locals: &[u32], s: State, ops: &[u32], args: &[u32]
     ensures promised { λ r. ⌜ Refuses unfold-numbers r ⌝ }
 {
     let mut offs = [0u32; 4096];
-    let r = check_use(types, &mut offs, locals, s, ops, args);
+    let r = check_use(types, &mut offs, locals, s, ops, args, Aim::Unfolds);
     if r != 0 {
-        return Moved {
-            answer: Outcome::Refused(r),
-            state: s,
-        };
-    }
-    if !spot_ok(ops, args, locals.len(), 63) {
-        return Moved {
-            answer: Outcome::Refused(4),
-            state: s,
-        };
+        return refused(r, s);
     }
     let mut forms = s.forms;
     let mut whats = s.whats;
-    let u = open::unfold(
+    let c = open::unfold(
         types,
         &offs,
         locals,
@@ -218,11 +226,5 @@ pub fn unfold(types: &[u32], locals: &[u32], s: State, ops: &[u32], args: &[u32]
         ops,
         args,
     );
-    let answer = u.answer;
-    let state = State {
-        forms,
-        whats,
-        nodes: u.nodes,
-    };
-    Moved { answer, state }
+    moved(c, forms, whats)
 }

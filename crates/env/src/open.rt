@@ -1,32 +1,24 @@
 // One step more where a walk has ended: `Env::downcast`, and an unfold carried out, in the lent arrays of a state that passes.
 ghost use mathlib.Core.Path.{_≡_};
-ghost use mathlib.Core.Bool.{true};
-ghost use mathlib.Core.List.{List};
-ghost use mathlib.Core.Option.{some};
-ghost use Prim.Native.Nat.{ℕ, _<_};
+ghost use Prim.Native.Nat.{_<_};
 ghost use lib.ListN.{length, getD};
+ghost use Rattle.moments.specs.Lent.{was, after};
 ghost use Rattle.model.specs.Types.{ntypes};
-ghost use Rattle.model.specs.Tree.{Tree, Forest};
-ghost use Rattle.model.specs.State.{locals-ok};
-ghost use Rattle.model.specs.Place.{Spot, Unfold, used-ok, unfold-ok};
-ghost use Rattle.model.specs.Walk.{downcasting};
-ghost use Rattle.model.specs.Block.{elem-of};
-ghost use Rattle.model.specs.Calls.{spot-of};
-ghost use Rattle.records.specs.Here.{Coded, Here, Holds};
+ghost use Rattle.model.specs.Place.{Unfold, used-ok, unfold-ok};
+ghost use Rattle.records.specs.Here.{Here};
 ghost use Rattle.type_record.specs.Sizes.{Ready};
-ghost use Rattle.state.specs.Value.{value, state-in};
-ghost use Rattle.walk.specs.Way.{acts};
-ghost use Rattle.walk.specs.Fresh.{distance};
-ghost use Rattle.env.specs.Given.{Given, Sited};
-ghost use Rattle.env.specs.Answers.{moved-in, last-step, carrying, Moves, Lasts, outcome, left};
+ghost use Rattle.state.specs.Value.{state-in};
+ghost use Rattle.env.specs.Given.{Asked};
+ghost use Rattle.env.specs.Answers.{moved-in};
+ghost use Rattle.env.specs.There.{Staying, Carries-there, Casts-there, Castable-there, Steps-there, Lasts-there, Arrived, Lasts-at, Arrived-folded, Grows-at, Stays-at};
 use crate::project::Change;
 use crate::project::Outcome;
 use crate::project::ensure_unfolded;
+use mir::items::DOWNCAST;
 use walk::along::Walk;
 use walk::along::Walked;
 use walk::along::refusal;
 use walk::apply::open_nodes;
-use walk::step::DOWNCAST;
 use walk::step::OPEN;
 use walk::step::Opened;
 use walk::step::Step;
@@ -40,6 +32,12 @@ enum Last {
     Refused(u32),
 }
 
+// One step more at the node reached, as an item: it stays at its node.
+struct More {
+    op: u32,
+    arg: u32,
+}
+
 // One step more at an open node: it stays as it is, or the step is refused.
 fn stay<'a>(
     types: &[u32],
@@ -48,17 +46,16 @@ fn stay<'a>(
     whats: &'a [u16],
     node: usize,
     typ: usize,
-    op: u32,
-    arg: u32,
+    more: More,
 ) -> Outcome
     requires { ⌜ Ready (now types) (now offs) ⌝ }
     requires { ⌜ typ < ntypes (now types) ⌝ }
     requires { ⌜ Here (now types) (now forms) (now whats) node typ ⌝ }
     requires { ⌜ (getD (now forms) node 0 ≡ 0 → ⊥) ⌝ }
-    requires { ⌜ distance (elem-of op arg) ≡ 0 ⌝ }
-    ensures { λ r. ⌜ ((y : Tree) → Coded (now (types .entry)) (now (forms .entry)) (now (whats .entry)) node typ y → acts (now (types .entry)) (elem-of op arg) y ≡ left y r) ⌝ }
+    requires { ⌜ Staying more ⌝ }
+    ensures { λ r. ⌜ Stays-at (was types) (was forms) (was whats) node typ more r ⌝ }
 {
-    let s = step_open(types, offs, forms, whats, node, typ, op, arg);
+    let s = step_open(types, offs, forms, whats, node, typ, more.op, more.arg);
     match s {
         Step::To { node: _, typ: _ } => Outcome::Fine,
         Step::Refused(n) => Outcome::Refused(n),
@@ -66,14 +63,13 @@ fn stay<'a>(
 }
 
 // One step more at a folded node, or at one that the walk opens.
-fn grow(types: &[u32], offs: &[u32], nodes: usize, w: Walk, op: u32, arg: u32) -> Last
+fn grow(types: &[u32], offs: &[u32], nodes: usize, w: Walk, more: More) -> Last
     requires { ⌜ Ready (now types) (now offs) ⌝ }
-    requires { ⌜ ((fs ws ops args : List ℕ) × Sited (now types) (state-in fs ws nodes) ops args w × (getD fs (w .node) 0 ≡ 0)) ⌝ }
-    requires { ⌜ distance (elem-of op arg) ≡ 0 ⌝ }
-    requires { ⌜ (op ≡ 0 → ⊥) ⌝ }
-    ensures { λ r. ⌜ ((fs ws ops args : List ℕ) (d : Sited (now (types .entry)) (state-in fs ws nodes) ops args w) → getD fs (w .node) 0 ≡ 0 → unfold-ok (length (d .locals)) (d .spot) ≡ true → Lasts (now (types .entry)) (d .locals) ops args (state-in fs ws nodes) op arg (last-step (now (types .entry)) (elem-of op arg) (d .spot) (d .state)) r) ⌝ }
+    requires { ⌜ Arrived-folded (now types) nodes w ⌝ }
+    requires { ⌜ Staying more ⌝ }
+    ensures { λ r. ⌜ Grows-at (was types) nodes w more r ⌝ }
 {
-    let o = step_folded(types, offs, w.fresh, op, arg);
+    let o = step_folded(types, offs, w.fresh, more.op, more.arg);
     match o {
         Opened::Refused(n) => Last::Refused(n),
         Opened::To(g) => {
@@ -99,20 +95,18 @@ fn last_at<'a>(
     whats: &'a [u16],
     nodes: usize,
     w: Walk,
-    op: u32,
-    arg: u32,
+    more: More,
 ) -> Last
     requires { ⌜ Ready (now types) (now offs) ⌝ }
-    requires { ⌜ ((ops args : List ℕ) × Sited (now types) (state-in (now forms) (now whats) nodes) ops args w) ⌝ }
-    requires { ⌜ distance (elem-of op arg) ≡ 0 ⌝ }
-    requires { ⌜ (op ≡ 0 → ⊥) ⌝ }
-    ensures { λ r. ⌜ ((ops args : List ℕ) (d : Sited (now (types .entry)) (state-in (now (forms .entry)) (now (whats .entry)) nodes) ops args w) → unfold-ok (length (d .locals)) (d .spot) ≡ true → Lasts (now (types .entry)) (d .locals) ops args (state-in (now (forms .entry)) (now (whats .entry)) nodes) op arg (last-step (now (types .entry)) (elem-of op arg) (d .spot) (d .state)) r) ⌝ }
+    requires { ⌜ Arrived (now types) (state-in (now forms) (now whats) nodes) w ⌝ }
+    requires { ⌜ Staying more ⌝ }
+    ensures { λ r. ⌜ Lasts-at (was types) (state-in (was forms) (was whats) nodes) w more r ⌝ }
 {
     let i = w.node;
     if forms[i] == 0 {
-        return grow(types, offs, nodes, w, op, arg);
+        return grow(types, offs, nodes, w, more);
     }
-    let a = stay(types, offs, forms, whats, i, w.typ, op, arg);
+    let a = stay(types, offs, forms, whats, i, w.typ, more);
     match a {
         Outcome::Fine => Last::Stays,
         Outcome::Refused(n) => Last::Refused(n),
@@ -129,21 +123,17 @@ fn last_step<'a>(
     nodes: usize,
     ops: &[u32],
     args: &[u32],
-    op: u32,
-    arg: u32,
+    more: More,
 ) -> Last
-    requires { ⌜ Ready (now types) (now offs) ⌝ }
-    requires { ⌜ locals-ok (now types) (now locals) ≡ true ⌝ }
-    requires { ⌜ Given (now types) (now locals) (state-in (now forms) (now whats) nodes) (now ops) (now args) (unfold-ok (length (now locals))) ⌝ }
-    requires { ⌜ distance (elem-of op arg) ≡ 0 ⌝ }
-    requires { ⌜ (op ≡ 0 → ⊥) ⌝ }
-    ensures { λ r. ⌜ ((E : Forest) (q : Spot) → Holds (now (types .entry)) (now (locals .entry)) (value (state-in (now (forms .entry)) (now (whats .entry)) nodes)) E → spot-of (now (ops .entry)) (now (args .entry)) ≡ some q → Lasts (now (types .entry)) (now (locals .entry)) (now (ops .entry)) (now (args .entry)) (state-in (now (forms .entry)) (now (whats .entry)) nodes) op arg (last-step (now (types .entry)) (elem-of op arg) q E) r) ⌝ }
+    requires { ⌜ Asked (now types) (now offs) (now locals) (state-in (now forms) (now whats) nodes) (now ops) (now args) (unfold-ok (length (now locals))) ⌝ }
+    requires { ⌜ Staying more ⌝ }
+    ensures { λ r. ⌜ Lasts-there (was types) (was locals) (state-in (was forms) (was whats) nodes) (was ops) (was args) more r ⌝ }
 {
     let a = ensure_unfolded(types, offs, locals, forms, whats, ops, args);
     let Walked::To(w) = a else {
         return Last::Refused(refusal(a));
     };
-    last_at(types, offs, forms, whats, nodes, w, op, arg)
+    last_at(types, offs, forms, whats, nodes, w, more)
 }
 
 // Walk, then one step more, carried out.
@@ -156,24 +146,31 @@ fn open_last(
     nodes: usize,
     ops: &[u32],
     args: &[u32],
-    op: u32,
-    arg: u32,
+    more: More,
 ) -> Change
-    requires { ⌜ Ready (now types) (now offs) ⌝ }
-    requires { ⌜ locals-ok (now types) (now locals) ≡ true ⌝ }
-    requires { ⌜ Given (now types) (now locals) (state-in (now forms) (now whats) nodes) (now ops) (now args) (unfold-ok (length (now locals))) ⌝ }
-    requires { ⌜ distance (elem-of op arg) ≡ 0 ⌝ }
-    requires { ⌜ (op ≡ 0 → ⊥) ⌝ }
-    ensures { λ r. ⌜ ((E : Forest) (q : Spot) → Holds (now (types .entry)) (now (locals .entry)) (value (state-in (now (forms .entry)) (now (whats .entry)) nodes)) E → spot-of (now (ops .entry)) (now (args .entry)) ≡ some q → Moves (now (types .entry)) (now (locals .entry)) (state-in (now (forms .entry)) (now (whats .entry)) nodes) (last-step (now (types .entry)) (elem-of op arg) q E) (moved-in r (now (forms .exit)) (now (whats .exit)))) ⌝ }
+    requires { ⌜ Asked (now types) (now offs) (now locals) (state-in (now forms) (now whats) nodes) (now ops) (now args) (unfold-ok (length (now locals))) ⌝ }
+    requires { ⌜ Staying more ⌝ }
+    ensures { λ r. ⌜ Steps-there (was types) (was locals) (state-in (was forms) (was whats) nodes) (was ops) (was args) more (moved-in r (after forms) (after whats)) ⌝ }
 {
-    let l = last_step(types, offs, locals, forms, whats, nodes, ops, args, op, arg);
+    let l = last_step(types, offs, locals, forms, whats, nodes, ops, args, more);
     match l {
         Last::Stays => Change {
             answer: Outcome::Fine,
             nodes,
         },
         Last::Opens(w) => {
-            let n = open_nodes(types, offs, forms, whats, nodes, w, ops, args, op, arg);
+            let n = open_nodes(
+                types,
+                offs,
+                forms,
+                whats,
+                nodes,
+                w,
+                ops,
+                args,
+                more.op,
+                more.arg,
+            );
             Change {
                 answer: Outcome::Fine,
                 nodes: n,
@@ -198,23 +195,14 @@ pub fn can_downcast<'a>(
     args: &[u32],
     v: u32,
 ) -> Outcome
-    requires { ⌜ Ready (now types) (now offs) ⌝ }
-    requires { ⌜ locals-ok (now types) (now locals) ≡ true ⌝ }
-    requires { ⌜ Given (now types) (now locals) (state-in (now forms) (now whats) nodes) (now ops) (now args) (used-ok (length (now locals))) ⌝ }
-    ensures { λ r. ⌜ ((E : Forest) (q : Spot) → Holds (now (types .entry)) (now (locals .entry)) (value (state-in (now (forms .entry)) (now (whats .entry)) nodes)) E → spot-of (now (ops .entry)) (now (args .entry)) ≡ some q → r ≡ outcome (downcasting (now (types .entry)) q v E)) ⌝ }
+    requires { ⌜ Asked (now types) (now offs) (now locals) (state-in (now forms) (now whats) nodes) (now ops) (now args) (used-ok (length (now locals))) ⌝ }
+    ensures { λ r. ⌜ Castable-there (was types) (was locals) (state-in (was forms) (was whats) nodes) (was ops) (was args) v r ⌝ }
 {
-    let l = last_step(
-        types,
-        offs,
-        locals,
-        forms,
-        whats,
-        nodes,
-        ops,
-        args,
-        DOWNCAST,
-        v,
-    );
+    let more = More {
+        op: DOWNCAST,
+        arg: v,
+    };
+    let l = last_step(types, offs, locals, forms, whats, nodes, ops, args, more);
     match l {
         Last::Refused(n) => Outcome::Refused(n),
         _ => Outcome::Fine,
@@ -233,23 +221,14 @@ pub fn downcast(
     args: &[u32],
     v: u32,
 ) -> Change
-    requires { ⌜ Ready (now types) (now offs) ⌝ }
-    requires { ⌜ locals-ok (now types) (now locals) ≡ true ⌝ }
-    requires { ⌜ Given (now types) (now locals) (state-in (now forms) (now whats) nodes) (now ops) (now args) (used-ok (length (now locals))) ⌝ }
-    ensures { λ r. ⌜ ((E : Forest) (q : Spot) → Holds (now (types .entry)) (now (locals .entry)) (value (state-in (now (forms .entry)) (now (whats .entry)) nodes)) E → spot-of (now (ops .entry)) (now (args .entry)) ≡ some q → Moves (now (types .entry)) (now (locals .entry)) (state-in (now (forms .entry)) (now (whats .entry)) nodes) (downcasting (now (types .entry)) q v E) (moved-in r (now (forms .exit)) (now (whats .exit)))) ⌝ }
+    requires { ⌜ Asked (now types) (now offs) (now locals) (state-in (now forms) (now whats) nodes) (now ops) (now args) (used-ok (length (now locals))) ⌝ }
+    ensures { λ r. ⌜ Casts-there (was types) (was locals) (state-in (was forms) (was whats) nodes) (was ops) (was args) v (moved-in r (after forms) (after whats)) ⌝ }
 {
-    open_last(
-        types,
-        offs,
-        locals,
-        forms,
-        whats,
-        nodes,
-        ops,
-        args,
-        DOWNCAST,
-        v,
-    )
+    let more = More {
+        op: DOWNCAST,
+        arg: v,
+    };
+    open_last(types, offs, locals, forms, whats, nodes, ops, args, more)
 }
 
 // An unfold carried out.
@@ -263,10 +242,9 @@ pub fn unfold(
     ops: &[u32],
     args: &[u32],
 ) -> Change
-    requires { ⌜ Ready (now types) (now offs) ⌝ }
-    requires { ⌜ locals-ok (now types) (now locals) ≡ true ⌝ }
-    requires { ⌜ Given (now types) (now locals) (state-in (now forms) (now whats) nodes) (now ops) (now args) (unfold-ok (length (now locals))) ⌝ }
-    ensures { λ r. ⌜ ((E : Forest) (q : Spot) → Holds (now (types .entry)) (now (locals .entry)) (value (state-in (now (forms .entry)) (now (whats .entry)) nodes)) E → spot-of (now (ops .entry)) (now (args .entry)) ≡ some q → Moves (now (types .entry)) (now (locals .entry)) (state-in (now (forms .entry)) (now (whats .entry)) nodes) (carrying (now (types .entry)) (now (locals .entry)) Unfold q E) (moved-in r (now (forms .exit)) (now (whats .exit)))) ⌝ }
+    requires { ⌜ Asked (now types) (now offs) (now locals) (state-in (now forms) (now whats) nodes) (now ops) (now args) (unfold-ok (length (now locals))) ⌝ }
+    ensures { λ r. ⌜ Carries-there (was types) (was locals) (state-in (was forms) (was whats) nodes) (was ops) (was args) Unfold (moved-in r (after forms) (after whats)) ⌝ }
 {
-    open_last(types, offs, locals, forms, whats, nodes, ops, args, OPEN, 0)
+    let more = More { op: OPEN, arg: 0 };
+    open_last(types, offs, locals, forms, whats, nodes, ops, args, more)
 }

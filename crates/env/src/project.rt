@@ -1,21 +1,12 @@
 // The walk of a place, `Env::projection`, and a fold carried out, in the lent arrays of a state that passes.
-ghost use mathlib.Core.Path.{_≡_};
-ghost use mathlib.Core.Bool.{true};
-ghost use mathlib.Core.Option.{some};
-ghost use Prim.Native.Nat.{ℕ, _<_};
 ghost use lib.ListN.{length};
-ghost use Rattle.model.specs.Tree.{Forest, sizes};
-ghost use Rattle.model.specs.State.{locals-ok};
-ghost use Rattle.model.specs.Place.{Spot, Fold, Unfold, spot-ok, used-ok, fold-ok};
-ghost use Rattle.model.specs.Walk.{pick, projection, enum-at};
-ghost use Rattle.model.specs.Collect.{firsts};
-ghost use Rattle.model.specs.Calls.{spot-of};
-ghost use Rattle.records.specs.Here.{Holds};
+ghost use Rattle.moments.specs.Lent.{was, after};
+ghost use Rattle.model.specs.Place.{Fold, spot-ok, used-ok, fold-ok};
 ghost use Rattle.type_record.specs.Sizes.{Ready};
-ghost use Rattle.state.specs.Value.{value, state-in};
-ghost use Rattle.walk.specs.Site.{Walks};
-ghost use Rattle.env.specs.Given.{Given, Sited};
-ghost use Rattle.env.specs.Answers.{usage-in, moved-in, Projects, carrying, Moves, enum-of};
+ghost use Rattle.state.specs.Value.{state-in};
+ghost use Rattle.env.specs.Given.{Asked, Asked-in, Sited};
+ghost use Rattle.env.specs.Answers.{usage-in, moved-in};
+ghost use Rattle.env.specs.There.{Projects-there, Carries-there, Walks-there, Enum-there, Projects-at};
 use state::nodes::State;
 use state::nodes::local_at;
 use type_record::record::kind_of;
@@ -77,10 +68,8 @@ pub fn ensure_unfolded<'a>(
     ops: &[u32],
     args: &[u32],
 ) -> Walked
-    requires { ⌜ Ready (now types) (now offs) ⌝ }
-    requires { ⌜ locals-ok (now types) (now locals) ≡ true ⌝ }
-    requires { ⌜ ((n : ℕ) × Given (now types) (now locals) (state-in (now forms) (now whats) n) (now ops) (now args) (spot-ok 64 (length (now locals)))) ⌝ }
-    ensures { λ r. ⌜ ((n : ℕ) (E : Forest) (q : Spot) → Holds (now (types .entry)) (now (locals .entry)) (value (state-in (now (forms .entry)) (now (whats .entry)) n)) E → spot-of (now (ops .entry)) (now (args .entry)) ≡ some q → Walks (now (types .entry)) (now (forms .entry)) (now (whats .entry)) (now (ops .entry)) (now (args .entry)) (sizes (firsts (q .local) E)) (q .place) (pick (q .local) E) r) ⌝ }
+    requires { ⌜ Asked-in (now types) (now offs) (now locals) (now forms) (now whats) (now ops) (now args) (spot-ok 64 (length (now locals))) ⌝ }
+    ensures { λ r. ⌜ Walks-there (was types) (was locals) (was forms) (was whats) (was ops) (was args) r ⌝ }
 {
     let l = wide(args[0]);
     let i = local_at(types, offs, forms, whats, locals, l);
@@ -97,10 +86,8 @@ pub fn enum_at<'a>(
     ops: &[u32],
     args: &[u32],
 ) -> Enum
-    requires { ⌜ Ready (now types) (now offs) ⌝ }
-    requires { ⌜ locals-ok (now types) (now locals) ≡ true ⌝ }
-    requires { ⌜ ((n : ℕ) × Given (now types) (now locals) (state-in (now forms) (now whats) n) (now ops) (now args) (used-ok (length (now locals)))) ⌝ }
-    ensures { λ r. ⌜ ((n : ℕ) (E : Forest) (q : Spot) → Holds (now (types .entry)) (now (locals .entry)) (value (state-in (now (forms .entry)) (now (whats .entry)) n)) E → spot-of (now (ops .entry)) (now (args .entry)) ≡ some q → r ≡ enum-of (enum-at (now (types .entry)) q E)) ⌝ }
+    requires { ⌜ Asked-in (now types) (now offs) (now locals) (now forms) (now whats) (now ops) (now args) (used-ok (length (now locals))) ⌝ }
+    ensures { λ r. ⌜ Enum-there (was types) (was locals) (was forms) (was whats) (was ops) (was args) r ⌝ }
 {
     let a = ensure_unfolded(types, offs, locals, forms, whats, ops, args);
     let Walked::To(w) = a else {
@@ -128,7 +115,7 @@ fn used_at(
 ) -> Use
     requires { ⌜ Ready (now types) (now offs) ⌝ }
     requires { ⌜ Sited (now types) (state-in (now forms) (now whats) nodes) (now ops) (now args) w ⌝ }
-    ensures { λ r. ⌜ ((d : Sited (now (types .entry)) (state-in (now (forms .entry)) (now (whats .entry)) nodes) (now (ops .entry)) (now (args .entry)) w) → fold-ok (length (d .locals)) (d .spot) ≡ true → Projects (now (types .entry)) (d .locals) (state-in (now (forms .entry)) (now (whats .entry)) nodes) (projection (now (types .entry)) (d .spot) (d .state)) (usage-in r (now (forms .exit)) (now (whats .exit)))) ⌝ }
+    ensures { λ r. ⌜ Projects-at (was types) (state-in (was forms) (was whats) nodes) (was ops) (was args) w (usage-in r (after forms) (after whats)) ⌝ }
 {
     let f = w.fresh;
     if w.passed < w.walked {
@@ -169,10 +156,8 @@ fn used(
     ops: &[u32],
     args: &[u32],
 ) -> Use
-    requires { ⌜ Ready (now types) (now offs) ⌝ }
-    requires { ⌜ locals-ok (now types) (now locals) ≡ true ⌝ }
-    requires { ⌜ Given (now types) (now locals) (state-in (now forms) (now whats) nodes) (now ops) (now args) (fold-ok (length (now locals))) ⌝ }
-    ensures { λ r. ⌜ ((E : Forest) (q : Spot) → Holds (now (types .entry)) (now (locals .entry)) (value (state-in (now (forms .entry)) (now (whats .entry)) nodes)) E → spot-of (now (ops .entry)) (now (args .entry)) ≡ some q → Projects (now (types .entry)) (now (locals .entry)) (state-in (now (forms .entry)) (now (whats .entry)) nodes) (projection (now (types .entry)) q E) (usage-in r (now (forms .exit)) (now (whats .exit)))) ⌝ }
+    requires { ⌜ Asked (now types) (now offs) (now locals) (state-in (now forms) (now whats) nodes) (now ops) (now args) (fold-ok (length (now locals))) ⌝ }
+    ensures { λ r. ⌜ Projects-there (was types) (was locals) (state-in (was forms) (was whats) nodes) (was ops) (was args) (usage-in r (after forms) (after whats)) ⌝ }
 {
     let a = ensure_unfolded(types, offs, locals, forms, whats, ops, args);
     let Walked::To(w) = a else {
@@ -195,10 +180,8 @@ pub fn projection(
     ops: &[u32],
     args: &[u32],
 ) -> Use
-    requires { ⌜ Ready (now types) (now offs) ⌝ }
-    requires { ⌜ locals-ok (now types) (now locals) ≡ true ⌝ }
-    requires { ⌜ Given (now types) (now locals) (state-in (now forms) (now whats) nodes) (now ops) (now args) (used-ok (length (now locals))) ⌝ }
-    ensures { λ r. ⌜ ((E : Forest) (q : Spot) → Holds (now (types .entry)) (now (locals .entry)) (value (state-in (now (forms .entry)) (now (whats .entry)) nodes)) E → spot-of (now (ops .entry)) (now (args .entry)) ≡ some q → Projects (now (types .entry)) (now (locals .entry)) (state-in (now (forms .entry)) (now (whats .entry)) nodes) (projection (now (types .entry)) q E) (usage-in r (now (forms .exit)) (now (whats .exit)))) ⌝ }
+    requires { ⌜ Asked (now types) (now offs) (now locals) (state-in (now forms) (now whats) nodes) (now ops) (now args) (used-ok (length (now locals))) ⌝ }
+    ensures { λ r. ⌜ Projects-there (was types) (was locals) (state-in (was forms) (was whats) nodes) (was ops) (was args) (usage-in r (after forms) (after whats)) ⌝ }
 {
     used(types, offs, locals, forms, whats, nodes, ops, args)
 }
@@ -214,10 +197,8 @@ pub fn fold(
     ops: &[u32],
     args: &[u32],
 ) -> Change
-    requires { ⌜ Ready (now types) (now offs) ⌝ }
-    requires { ⌜ locals-ok (now types) (now locals) ≡ true ⌝ }
-    requires { ⌜ Given (now types) (now locals) (state-in (now forms) (now whats) nodes) (now ops) (now args) (fold-ok (length (now locals))) ⌝ }
-    ensures { λ r. ⌜ ((E : Forest) (q : Spot) → Holds (now (types .entry)) (now (locals .entry)) (value (state-in (now (forms .entry)) (now (whats .entry)) nodes)) E → spot-of (now (ops .entry)) (now (args .entry)) ≡ some q → Moves (now (types .entry)) (now (locals .entry)) (state-in (now (forms .entry)) (now (whats .entry)) nodes) (carrying (now (types .entry)) (now (locals .entry)) Fold q E) (moved-in r (now (forms .exit)) (now (whats .exit)))) ⌝ }
+    requires { ⌜ Asked (now types) (now offs) (now locals) (state-in (now forms) (now whats) nodes) (now ops) (now args) (fold-ok (length (now locals))) ⌝ }
+    ensures { λ r. ⌜ Carries-there (was types) (was locals) (state-in (was forms) (was whats) nodes) (was ops) (was args) Fold (moved-in r (after forms) (after whats)) ⌝ }
 {
     let p = used(types, offs, locals, forms, whats, nodes, ops, args);
     let a = p.answer;

@@ -18,8 +18,8 @@ use Rattle.mir.specs.Sizes.{Laid}
 use Rattle.blocks.specs.Points.{share-number}
 use Rattle.state.proofs.Copies.{drop-replicate, take-replicate}
 use Rattle.visit.specs.Memory.{Memory}
-use Rattle.visit.specs.Shares.{arrays, Remembers, share-of}
-use Rattle.fold_unfold.specs.Runs.{blank, again, Ranked}
+use Rattle.visit.specs.Shares.{kept-in, arrays, Remembers, share-of}
+use Rattle.fold_unfold.specs.Runs.{blank, again, fresh, Ranked}
 
 -- each word of zeros is 0, and past them too
 pub zero-word : (n i : ℕ) → word (replicate n 0) i ≡ 0
@@ -72,10 +72,12 @@ blank-remembered Γ fn m n h l = record {
 -- the same of arrays that have been wiped
 pub zeros-remembered : {Γ fn fs ws : List ℕ} → (fs ≡ replicate (length fs) 0) × (ws ≡ replicate (length ws) 0)
     → (most * join-points fn ≤ length fs) × (most * join-points fn ≤ length ws)
-    → Remembers Γ fn blank (arrays (replicate 256 0) (replicate 256 0) (replicate 256 0) fs ws)
+    → Remembers Γ fn blank (fresh (replicate 512 0) fs ws)
 zeros-remembered {Γ} {fn} {fs} {ws} z h =
-    subst₂ (λ (f w : List ℕ). Remembers Γ fn blank (arrays (replicate 256 0) (replicate 256 0) (replicate 256 0) f w)) (sym (z .0)) (sym (z .1))
-    (blank-remembered Γ fn (length fs) (length ws) (h .0) (h .1))
+    let k : kept-in (replicate 512 0) ≡ replicate 256 0 = take-replicate 256 512 0 (omega arith) in
+    rw k
+    (subst₂ (λ (f w : List ℕ). Remembers Γ fn blank (arrays (replicate 256 0) (replicate 256 0) (replicate 256 0) f w)) (sym (z .0)) (sym (z .1))
+    (blank-remembered Γ fn (length fs) (length ws) (h .0) (h .1)))
 
 -- before the second
 pub again-remembered : {Γ fn : List ℕ} {m : Memory} {k v w fs ws : List ℕ} → Remembers Γ fn m (arrays k v w fs ws)

@@ -1,5 +1,6 @@
--- The arrays change as the memory does: a block waits no more, is visited; lines are recorded. And what a pass leaves.
-use mathlib.Core.Path.{_≡_, sym, ap, _∙_}
+-- The arrays change as the memory does: a block waits no more, is visited; lines are recorded; none was visited. And what a pass
+-- leaves.
+use mathlib.Core.Path.{_≡_, refl, sym, ap, _∙_, subst₂}
 use mathlib.Core.Bool.{Bool, true, false, cond, not}
 use mathlib.Core.List.{List, _++_}
 use Prim.Native.Nat.{ℕ, _<_}
@@ -12,13 +13,10 @@ use Rattle.model.specs.Place.{At}
 use Rattle.model.specs.Block.{entry-point}
 use Rattle.model.specs.Frame.{Line, mark}
 use Rattle.model.specs.Rounds.{put, elem}
-use Rattle.model.specs.Answer.{Answer}
 use Rattle.base.specs.Tests.{split, eqb-sym}
 use Rattle.visit.specs.Memory.{Memory}
-use Rattle.visit.specs.Shares.{Arrays, arrays, Alike, Remembers}
-use Rattle.visit.specs.Visits.{Visits}
-use Rattle.visit.specs.declared.block.Visit.{Visit}
-use Rattle.fold_unfold.specs.Runs.{visiting, entered}
+use Rattle.visit.specs.Shares.{visited-in, Visited, Unvisited, Arrays, arrays, arrays-in, Alike, Remembers}
+use Rattle.fold_unfold.specs.Runs.{visiting, entered, fresh}
 use Rattle.fold_unfold.proofs.Begun.{zero-word}
 use Rattle.fold_unfold.proofs.Rounds.{told}
 
@@ -37,27 +35,27 @@ unwaiting b m = record { kept = m .kept; waits = put (m .waits) b false; visited
 
 module _ {Γ fn : List ℕ} {m : Memory} {a : Arrays} (R : Remembers Γ fn m a) where
   -- a popped block
-  pub remembers-unwaiting : (b : ℕ) → b < length (a .waits)
-      → Remembers Γ fn (unwaiting b m) (arrays (a .kept) (a .visited) (set (a .waits) b 0) (a .forms) (a .whats))
+  pub remembers-unwaiting : {w : List ℕ} (b : ℕ) → b < length (a .waits) → w ≡ set (a .waits) b 0
+      → Remembers Γ fn (unwaiting b m) (arrays (a .kept) (a .visited) w (a .forms) (a .whats))
   unfolding put
-  remembers-unwaiting b h = record {
+  remembers-unwaiting b h e = record {
     long = record {
       kept = R .long .kept;
       visited = R .long .visited;
-      waits = length-set (a .waits) b 0 ∙ R .long .waits;
+      waits = ap length e ∙ length-set (a .waits) b 0 ∙ R .long .waits;
       forms = R .long .forms;
       whats = R .long .whats;
     };
     saved = R .saved;
     unsaved = R .unsaved;
-    waits = λ c l. cc (set-test (a .waits) b 0 c h, R .waits c l);
+    waits = λ c l. cc (e, set-test (a .waits) b 0 c h, R .waits c l);
     visited = R .visited;
     forms-rest = R .forms-rest;
     whats-rest = R .whats-rest;
   }
 
   -- a visited block
-  pub remembers-visiting : (b : ℕ) → b < length (a .visited)
+  remembers-visiting : (b : ℕ) → b < length (a .visited)
       → Remembers Γ fn (visiting b m) (arrays (a .kept) (set (a .visited) b 1) (a .waits) (a .forms) (a .whats))
   unfolding elem
   remembers-visiting b h = record {
@@ -116,18 +114,29 @@ module _ {Γ fn : List ℕ} {m : Memory} {a : Arrays} (R : Remembers Γ fn m a) 
   )
   remembers-told true = (a .visited, R)
 
--- a visit behind others
-pub visits-after : {Γ fn : List ℕ} {recording : Bool} {x y z : Arrays} {out out′ out″ : List ℕ} {a : Answer Memory} {r : Visit} → Alike x y → length out′ ≡ length out
-    → Visits Γ fn recording y out′ a z out″ r → Visits Γ fn recording x out a z out″ r
-visits-after A e W = record {
-  alike = record {
-    kept = W .alike .kept ∙ A .kept;
-    visited = W .alike .visited ∙ A .visited;
-    waits = W .alike .waits ∙ A .waits;
-    forms = W .alike .forms ∙ A .forms;
-    whats = W .alike .whats ∙ A .whats;
-  };
-  same = W .same ∙ e;
-  denied = W .denied;
-  over = W .over;
-}
+-- THE ARRAY OF A RUN
+
+module _ {memo memo′ fs ws : List ℕ} where
+  -- no block was visited: a pass begins
+  pub remembers-cleared : {Γ fn : List ℕ} {m : Memory} → Unvisited memo memo′ → Remembers Γ fn m (fresh memo fs ws) → Remembers Γ fn m (arrays-in memo′ (replicate 256 0) fs ws)
+  remembers-cleared {Γ} {fn} {m} U R = subst₂ (λ (k v : List ℕ). Remembers Γ fn m (arrays k v (replicate 256 0) fs ws)) (sym (U .kept)) (sym (U .visited)) R
+
+  -- all is as long as it was
+  pub alike-cleared : Unvisited memo memo′ → Alike (fresh memo fs ws) (arrays-in memo′ (replicate 256 0) fs ws)
+  alike-cleared U = record { kept = ap length (U .kept); visited = ap length (U .visited); waits = refl; forms = refl; whats = refl }
+
+  -- a block is visited
+  pub remembers-visited : {Γ fn : List ℕ} {m : Memory} {w : List ℕ} {b : ℕ} → Visited memo b memo′ → b < 256
+      → Remembers Γ fn m (arrays-in memo w fs ws) → Remembers Γ fn (visiting b m) (arrays-in memo′ w fs ws)
+  remembers-visited {Γ} {fn} {m} {w} {b} T h R =
+      subst₂ (λ (k v : List ℕ). Remembers Γ fn (visiting b m) (arrays k v w fs ws)) (sym (T .kept)) (sym (T .visited)) (remembers-visiting R b (rw (R .long .visited) h))
+
+  -- and so then
+  pub alike-visited : {w : List ℕ} {b : ℕ} → Visited memo b memo′ → Alike (arrays-in memo w fs ws) (arrays-in memo′ w fs ws)
+  alike-visited {b = b} T = record {
+    kept = ap length (T .kept);
+    visited = ap length (T .visited) ∙ length-set (visited-in memo) b 1;
+    waits = refl;
+    forms = refl;
+    whats = refl;
+  }

@@ -28,7 +28,8 @@ use Rattle.visit.specs.declared.block.Visit.the-variants.{Over, Refused}
 use Rattle.fold_unfold.specs.Runs.{rest, Ranked, Ends}
 use Rattle.fold_unfold.proofs.Rounds.{Steady, told, Turned, rests}
 use Rattle.fold_unfold.proofs.Weight.{weight, weight-is, height}
-use Rattle.fold_unfold.proofs.Changed.{remembers-told, visits-after}
+use Rattle.visit.proofs.Entering.{visits-later}
+use Rattle.fold_unfold.proofs.Changed.{remembers-told}
 
 -- THE NEXT BLOCK
 
@@ -162,7 +163,7 @@ module _ {Γ fn : List ℕ} {recording : Bool} {x : Arrays} {out : List ℕ} {a 
     stands-turns e = record {
       left = enters Γ fn recording (nblocks fn) b (T .state) (popped b (A .memory));
       goes = A .goes ∙ T .goes;
-      visits = visits-after (record { kept = A .alike .kept; visited = A .alike .visited; waits = ap length e ∙ length-set (y .waits) b 0 ∙ A .alike .waits; forms = A .alike .forms; whats = A .alike .whats }) (A .same) X;
+      visits = visits-later (record { kept = A .alike .kept; visited = A .alike .visited; waits = ap length e ∙ length-set (y .waits) b 0 ∙ A .alike .waits; forms = A .alike .forms; whats = A .alike .whats }) (A .same) X;
       steady = λ m e. (T .less m e) .0;
     }
 

@@ -10,15 +10,20 @@ use Rattle.model.specs.Words.{word, count-below}
 use Rattle.model.specs.Tree.{Forest}
 use Rattle.model.specs.Function.{nblocks, local-types}
 use Rattle.model.specs.Block.{is-join-point, join-points}
+use Rattle.model.specs.Body.{frame}
 use Rattle.base.specs.Tests.{split, clash}
 use Rattle.base.specs.Below.{count-room}
+use Rattle.base.specs.Function.{FunctionFacts}
 use Rattle.records.specs.Here.{Holds}
+use Rattle.solver.specs.Fuel.{root-join}
 use Rattle.blocks.specs.Points.{share-number}
 use Rattle.state.specs.Spliced.{fronted}
 use Rattle.state.specs.Value.{value}
 use Rattle.state.specs.declared.nodes.State.{State}
 use Rattle.visit.specs.Memory.{Memory}
 use Rattle.visit.specs.Shares.{Full, Shared, Arrays, share-of, Remembers}
+use Rattle.visit.specs.Ways.{Come}
+use Rattle.visit.proofs.Ways.{root-come}
 use Rattle.visit.proofs.Stored.{saved-loaded, saved-fits}
 
 -- the state S is stored for the block b
@@ -49,6 +54,11 @@ module _ {Γ fn points : List ℕ} {m : Memory} {a : Arrays} (P : Shared fn poin
         whats-room = omega arith;
         full = rw p (rw e at (R .saved b l j));
       }
+
+  -- and a way that comes to it has just begun
+  pub stored-come : FunctionFacts fn → {n : ℕ} → n ≡ nblocks fn → Come Γ fn (record { block = b; left = n - 1 })
+  unfolding frame
+  stored-come A d = rw d (root-come A (root-join stored-joins l))
 
 -- what is read of a share
 pub record Loads (Γ locals fs ws : List ℕ) (k : ℕ) (S : Forest) : Type 0 where

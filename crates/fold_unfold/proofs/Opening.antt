@@ -24,8 +24,10 @@ use Rattle.laws.specs.Sizes.{sizes-leaves}
 use Rattle.laws.specs.Valid.{leaves-valid}
 use Rattle.state.specs.Value.{value}
 use Rattle.state.specs.declared.nodes.State.{State}
-use Rattle.statements.specs.Kept.{Counted, Kept}
+use Rattle.statements.specs.Kept.{begun, Kept}
 use Rattle.statements.specs.declared.Out.{Out}
+use Rattle.statements.specs.declared.Point.{Point}
+use Rattle.statements.proofs.Puts.{counted-begun, kept-begun, counted-alike}
 use Rattle.body.specs.Uses.{point, uses, Tells, Passes, After}
 use Rattle.body.proofs.Stations.{entry-uses-uses}
 use Rattle.visit.specs.Memory.{Memory, jumps}
@@ -73,19 +75,6 @@ folded-holds Γ {fn} F s {n} e z =
     let same : value s ≡ encode Γ (leaves ts) = λ i. record { forms = f i; whats = g i; nodes = k i } in
     rw same (encode-holds (w .fits) (w .shallow) (w .small))
 
--- NOTHING IS RECORDED
-
--- the counts
-pub fresh-counted : (out : List ℕ) → Counted out (record { statements = 0; entries = 0 })
-fresh-counted out = record { statements = omega arith; entries = omega arith }
-
--- the entries
-fresh-kept : (out : List ℕ) → Kept 0 [] out (record { statements = 0; entries = 0 })
-fresh-kept out = record {
-  fits = λ h. record { statements = refl; entries = refl; ops = λ i l. absurd (omega arith); args = λ i l. absurd (omega arith) };
-  over = λ h. absurd (omega arith);
-}
-
 -- THE ENTRY'S USES
 
 -- they pass
@@ -96,20 +85,20 @@ pub record Entered (Γ fn : List ℕ) (recording : Bool) (out′ : List ℕ) (r 
   pub spoken : (m : Memory) → m .lines ≡ [] → Spoken fn recording ((entered Γ fn recording (entry .1) m) .lines) out′ (r .out)
 
 -- what is told of them
-told-spoken : (Γ fn : List ℕ) (recording : Bool) {out out′ : List ℕ} {q : Out} (ts : List At)
-    → Tells fn recording out (record { statements = 0; entries = 0 }) out′ q (mark (entry-point fn) ts)
+told-spoken : (Γ fn : List ℕ) (recording : Bool) {out out′ : List ℕ} {p : Point} {q : Out} (ts : List At)
+    → Tells fn out (begun recording p) out′ q (mark (entry-point fn) ts)
     → (m : Memory) → m .lines ≡ [] → Spoken fn recording ((entered Γ fn recording ts m) .lines) out′ q
 told-spoken Γ fn false {out} ts T m l =
-    let (e, d) = T .silent refl in
-    record { counted = rw (← e, ← d) at (fresh-counted out); kept = λ z. clash (cc) }
+    let (e, A) = T .silent refl in
+    record { pen = A .recording; counted = rw e (counted-alike A (counted-begun out)); kept = λ z. clash (cc) }
 told-spoken Γ fn true {out} {out′} {q} ts T m l =
     let U = T .told refl in
     let ls = mark (entry-point fn) ts in
-    let k : Kept (length ls) (entries (entry-point fn) ls) out′ q = rw zero-add at (U .kept 0 [] (fresh-kept out)) in
-    record { counted = U .counted; kept = λ z. rw l k }
+    let k : Kept (length ls) (entries (entry-point fn) ls) out′ q = rw zero-add at (U .kept 0 [] (kept-begun out)) in
+    record { pen = U .recording; counted = U .counted; kept = λ z. rw l k }
 
-module _ {Γ fn : List ℕ} {recording : Bool} {out out′ : List ℕ} {r : After}
-    (P : Passes Γ fn recording out (record { statements = 0; entries = 0 }) out′ (uses Γ fn true (start fn 0) 0 (leaves (local-types fn))) r) where
+module _ {Γ fn : List ℕ} {recording : Bool} {out out′ : List ℕ} {p : Point} {r : After}
+    (P : Passes Γ fn out (begun recording p) out′ (uses Γ fn true (start fn 0) 0 (leaves (local-types fn))) r) where
   -- refused
   pub entry-refused : (r .refusal ≡ 0 → ⊥) → (x : Arrays) (m : Memory) → Visits Γ fn recording x out (opens Γ fn recording m) x out′ (Refused (r .refusal))
   unfolding opens

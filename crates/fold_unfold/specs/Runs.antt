@@ -4,7 +4,8 @@ use mathlib.Core.Bool.{Bool, true, false}
 use mathlib.Core.List.{List, [], _∷_, _++_}
 use mathlib.Core.Option.{Option, none, some}
 use Prim.Native.Nat.{ℕ, _<_}
-use lib.ListN.{length}
+use lib.ListN.{length, replicate}
+use Rattle.moments.specs.Lent.{Lent, was, after}
 use Rattle.model.specs.Words.{word}
 use Rattle.model.specs.Answer.{Answer, refused, done, _>>=_}
 use Rattle.model.specs.Tree.{Forest, leaves}
@@ -16,8 +17,8 @@ use Rattle.model.specs.Rounds.{run-rounds}
 use Rattle.model.specs.Passes.{Store, solve, infer, round-two, unvisited}
 use Rattle.model.specs.Body.{enter-uses, frame}
 use Rattle.statements.specs.declared.Out.{Out}
-use Rattle.visit.specs.Shares.{Arrays, arrays, Remembers}
-use Rattle.visit.specs.Visits.{Spoken}
+use Rattle.visit.specs.Shares.{Arrays, arrays, kept-in, Change, Remembers}
+use Rattle.visit.specs.Visits.{Spoken, Visits}
 use Rattle.visit.specs.declared.block.Visit.{Visit}
 use Rattle.visit.specs.declared.block.Visit.the-variants.{Over, Refused}
 use Rattle.visit.specs.Memory.{Memory, store-of, with-store, log-of, with-log, enters, jumps}
@@ -55,11 +56,11 @@ abbrev pub again : (ℕ → Option Forest) → Memory
 again kept = record { kept = kept; waits = λ b. false; visited = []; lines = [] }
 
 -- a state is stored for the block b
-pub record Stored (Γ fn : List ℕ) (recording : Bool) (b : ℕ) (a : Arrays) (out : List ℕ) (o : Out) : Type 0 where
+pub record Stored (Γ fn : List ℕ) (b : ℕ) (a : Arrays) (out : List ℕ) (o : Out) : Type 0 where
   pub below : b < nblocks fn
   pub memory : Memory
   pub is : Remembers Γ fn memory a
-  pub spoken : Spoken fn recording (memory .lines) out o
+  pub spoken : Spoken fn (o .recording) (memory .lines) out o
   pub state : Forest
   pub there : memory .kept b ≡ some state
 
@@ -87,6 +88,10 @@ pub record Begins (Γ fn : List ℕ) (recording : Bool) (a : Arrays) : Type 0 wh
   pub is : Remembers Γ fn memory a
   pub starts : Starts Γ fn recording memory
 
+-- the arrays with which it does: no block was visited, none waits
+abbrev pub fresh : List ℕ → List ℕ → List ℕ → Arrays
+fresh memo fs ws = arrays (kept-in memo) (replicate 256 0) (replicate 256 0) fs ws
+
 -- model's answer a to a pass, in what outlives it
 pub record Ends (Γ fn : List ℕ) (recording : Bool) (kept fs ws out : List ℕ) (a : Answer Memory) (kept′ fs′ ws′ out′ : List ℕ) (r : Visit) : Type 0 where
   pub same-kept : length kept′ ≡ length kept
@@ -96,3 +101,21 @@ pub record Ends (Γ fn : List ℕ) (recording : Bool) (kept fs ws out : List ℕ
   pub denied : (n : ℕ) → a ≡ refused n → r ≡ Refused n
   pub over : (m : Memory) → a ≡ done m
       → (o : Out) × (v : List ℕ) × (w : List ℕ) × (r ≡ Over o) × Remembers Γ fn m (arrays kept′ v w fs′ ws′) × Spoken fn recording (m .lines) out′ o
+
+-- WHAT THE CODE DOES, from whatever memory the arrays and the buffer have
+
+-- the opening of a pass
+abbrev pub Opens : (Γ fn : List ℕ) → Bool → Change → Lent → Visit → Type 0
+Opens Γ fn recording x out r = (m : Memory) → m .lines ≡ [] → Remembers Γ fn m (x .before)
+    → Visits Γ fn recording (x .before) (was out) (opens Γ fn recording m) (x .behind) (after out) r
+
+-- one popped block, from the state stored for it
+abbrev pub Turns : (Γ fn : List ℕ) → Change → Lent → ℕ → Out → Visit → Type 0
+Turns Γ fn x out b o r = (m : Memory) (S : Forest) → Remembers Γ fn m (x .before) → m .kept b ≡ some S
+    → Spoken fn (o .recording) (m .lines) (was out) o
+    → Visits Γ fn (o .recording) (x .before) (was out) (enters Γ fn (o .recording) (nblocks fn) b S (visiting b m)) (x .behind) (after out) r
+
+-- a whole pass
+abbrev pub Runs : (Γ fn : List ℕ) → Bool → (memo fs ws out : Lent) → Visit → Type 0
+Runs Γ fn recording memo fs ws out r = (m : Memory) → Starts Γ fn recording m → Remembers Γ fn m (fresh (was memo) (was fs) (was ws))
+    → Ends Γ fn recording (kept-in (was memo)) (was fs) (was ws) (was out) (pass Γ fn recording m) (kept-in (after memo)) (after fs) (after ws) (after out) r

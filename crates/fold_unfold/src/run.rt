@@ -1,20 +1,17 @@
 // `run`: a pass is its opening at the entry, then turns until no block waits.
 ghost use mathlib.Core.Path.{_≡_};
-ghost use mathlib.Core.List.{[]};
-ghost use mathlib.Core.Option.{some};
 ghost use Prim.Native.Nat.{_*_, _≤_};
 ghost use lib.ListN.{length, replicate};
-ghost use Rattle.model.specs.Tree.{Forest};
+ghost use Rattle.moments.specs.Lent.{was, after};
 ghost use Rattle.model.specs.State.{most};
-ghost use Rattle.model.specs.Function.{nblocks};
 ghost use Rattle.model.specs.Block.{join-points};
 ghost use Rattle.body.specs.Given.{Accepted};
-ghost use Rattle.visit.specs.Memory.{Memory, enters};
-ghost use Rattle.visit.specs.Shares.{arrays, Shared, Remembers, Held};
-ghost use Rattle.visit.specs.Visits.{Spoken, Visits};
+ghost use Rattle.visit.specs.Shares.{arrays-in, change, Shared, Held};
 ghost use Rattle.fold_unfold.specs.Answers.{Analysed};
-ghost use Rattle.fold_unfold.specs.Runs.{opens, visiting, pass, Stored, Starts, Ranked, Begins, Ends};
+ghost use Rattle.fold_unfold.specs.Runs.{fresh, Stored, Ranked, Begins, Opens, Turns, Runs};
+use body::items::Items;
 use body::items::pass_items;
+use body::items::point_of;
 use mir::function::nblocks;
 use mir::function::nlocals;
 use mir::function::start_of;
@@ -23,10 +20,15 @@ use queue::pop;
 use state::nodes::State;
 use state::share::load_state;
 use statements::Out;
+use statements::begun;
 use type_record::record::wide;
 use visit::block::Visit;
+use visit::block::Way;
 use visit::block::basic_block;
 use visit::block::begin;
+use visit::memory::clear_visited;
+use visit::memory::set_visited;
+use visit::memory::stored;
 
 // The opening of a pass at the entry.
 fn open_pass(
@@ -34,8 +36,7 @@ fn open_pass(
     offs: &[u32],
     fun: &[u32],
     points: &[u32],
-    kept: &mut [u32],
-    visited: &[u32],
+    memo: &mut [u32],
     waits: &mut [u32],
     forms: &mut [u16],
     whats: &mut [u16],
@@ -44,26 +45,25 @@ fn open_pass(
 ) -> Visit
     requires { ⌜ Accepted (now types) (now offs) (now fun) ⌝ }
     requires { ⌜ Shared (now fun) (now points) ⌝ }
-    requires { ⌜ Held (now types) (now fun) (arrays (now kept) (now visited) (now waits) (now forms) (now whats)) ⌝ }
-    ensures { λ r. ⌜ ((m : Memory) → m .lines ≡ [] → Remembers (now (types .entry)) (now (fun .entry)) m (arrays (now (kept .entry)) (now (visited .entry)) (now (waits .entry)) (now (forms .entry)) (now (whats .entry))) → Visits (now (types .entry)) (now (fun .entry)) recording (arrays (now (kept .entry)) (now (visited .entry)) (now (waits .entry)) (now (forms .entry)) (now (whats .entry))) (now (out .entry)) (opens (now (types .entry)) (now (fun .entry)) recording m) (arrays (now (kept .exit)) (now (visited .entry)) (now (waits .exit)) (now (forms .exit)) (now (whats .exit))) (now (out .exit)) r) ⌝ }
+    requires { ⌜ Held (now types) (now fun) (arrays-in (now memo) (now waits) (now forms) (now whats)) ⌝ }
+    ensures { λ r. ⌜ Opens (was types) (was fun) recording (change memo waits forms whats) out r ⌝ }
 {
     let mut fs = [0u16; 512];
     let mut ws = [0u16; 512];
-    let o = Out {
-        statements: 0,
-        entries: 0,
+    let items = Items {
+        from: 0,
+        end: start_of(fun, 0),
+        entry: true,
     };
+    let o = begun(recording, point_of(0, true));
     let r = pass_items(
         types,
         offs,
         fun,
-        0,
-        start_of(fun, 0),
-        true,
+        items,
         &mut fs,
         &mut ws,
         nlocals(fun),
-        recording,
         out,
         o,
     );
@@ -81,13 +81,11 @@ fn open_pass(
         offs,
         fun,
         points,
-        kept,
-        visited,
+        memo,
         waits,
         forms,
         whats,
         out,
-        recording,
         t,
         q,
     )
@@ -99,41 +97,40 @@ fn turn(
     offs: &[u32],
     fun: &[u32],
     points: &[u32],
-    kept: &mut [u32],
-    visited: &mut [u32],
+    memo: &mut [u32],
     waits: &mut [u32],
     forms: &mut [u16],
     whats: &mut [u16],
     out: &mut [u32],
-    recording: bool,
     b: usize,
     o: Out,
 ) -> Visit
     requires { ⌜ Accepted (now types) (now offs) (now fun) ⌝ }
     requires { ⌜ Shared (now fun) (now points) ⌝ }
-    requires { ⌜ Stored (now types) (now fun) recording b (arrays (now kept) (now visited) (now waits) (now forms) (now whats)) (now out) o ⌝ }
-    ensures { λ r. ⌜ ((m : Memory) (S : Forest) → Remembers (now (types .entry)) (now (fun .entry)) m (arrays (now (kept .entry)) (now (visited .entry)) (now (waits .entry)) (now (forms .entry)) (now (whats .entry))) → m .kept b ≡ some S → Spoken (now (fun .entry)) recording (m .lines) (now (out .entry)) o → Visits (now (types .entry)) (now (fun .entry)) recording (arrays (now (kept .entry)) (now (visited .entry)) (now (waits .entry)) (now (forms .entry)) (now (whats .entry))) (now (out .entry)) (enters (now (types .entry)) (now (fun .entry)) recording (nblocks (now (fun .entry))) b S (visiting b m)) (arrays (now (kept .exit)) (now (visited .exit)) (now (waits .exit)) (now (forms .exit)) (now (whats .exit))) (now (out .exit)) r) ⌝ }
+    requires { ⌜ Stored (now types) (now fun) b (arrays-in (now memo) (now waits) (now forms) (now whats)) (now out) o ⌝ }
+    ensures { λ r. ⌜ Turns (was types) (was fun) (change memo waits forms whats) out b o r ⌝ }
 {
-    visited[b] = 1;
+    set_visited(memo, b);
     let p = wide(points[b]);
-    let k = wide(kept[b]);
+    let k = wide(stored(memo, b));
     let a = 512 * (p - 1);
     let e = a + 512;
     let s = load_state(&forms[a..e], &whats[a..e], k - 1);
+    let w = Way {
+        block: b,
+        left: nblocks(fun) - 1,
+    };
     basic_block(
         types,
         offs,
         fun,
         points,
-        kept,
-        visited,
+        memo,
         waits,
         forms,
         whats,
         out,
-        recording,
-        nblocks(fun) - 1,
-        b,
+        w,
         s,
         o,
     )
@@ -146,7 +143,7 @@ fn run(
     fun: &[u32],
     points: &[u32],
     ranks: &[u32],
-    kept: &mut [u32],
+    memo: &mut [u32],
     forms: &mut [u16],
     whats: &mut [u16],
     out: &mut [u32],
@@ -155,18 +152,18 @@ fn run(
     requires { ⌜ Accepted (now types) (now offs) (now fun) ⌝ }
     requires { ⌜ Shared (now fun) (now points) ⌝ }
     requires { ⌜ Ranked (now fun) (now ranks) ⌝ }
-    requires { ⌜ Begins (now types) (now fun) recording (arrays (now kept) (replicate 256 0) (replicate 256 0) (now forms) (now whats)) ⌝ }
-    ensures { λ r. ⌜ ((m : Memory) → Starts (now (types .entry)) (now (fun .entry)) recording m → Remembers (now (types .entry)) (now (fun .entry)) m (arrays (now (kept .entry)) (replicate 256 0) (replicate 256 0) (now (forms .entry)) (now (whats .entry))) → Ends (now (types .entry)) (now (fun .entry)) recording (now (kept .entry)) (now (forms .entry)) (now (whats .entry)) (now (out .entry)) (pass (now (types .entry)) (now (fun .entry)) recording m) (now (kept .exit)) (now (forms .exit)) (now (whats .exit)) (now (out .exit)) r) ⌝ }
+    requires { ⌜ 512 ≤ length (now memo) ⌝ }
+    requires { ⌜ Begins (now types) (now fun) recording (fresh (now memo) (now forms) (now whats)) ⌝ }
+    ensures { λ r. ⌜ Runs (was types) (was fun) recording memo forms whats out r ⌝ }
 {
-    let mut visited = [0u32; 256];
+    clear_visited(memo);
     let mut waits = [0u32; 256];
     let mut v = open_pass(
         types,
         offs,
         fun,
         points,
-        kept,
-        &visited,
+        memo,
         &mut waits,
         forms,
         whats,
@@ -186,13 +183,11 @@ fn run(
             offs,
             fun,
             points,
-            kept,
-            &mut visited,
+            memo,
             &mut waits,
             forms,
             whats,
             out,
-            recording,
             b,
             o,
         );
@@ -213,9 +208,9 @@ pub fn analyse(
     requires { ⌜ Shared (now fun) (now points) ⌝ }
     requires { ⌜ (now forms ≡ replicate (length (now forms)) 0) × (now whats ≡ replicate (length (now whats)) 0) ⌝ }
     requires { ⌜ (most * join-points (now fun) ≤ length (now forms)) × (most * join-points (now fun) ≤ length (now whats)) ⌝ }
-    ensures { λ r. ⌜ Analysed (now (types .entry)) (now (fun .entry)) (now (forms .entry)) (now (whats .entry)) (now (out .entry)) (now (forms .exit)) (now (whats .exit)) (now (out .exit)) r ⌝ }
+    ensures { λ r. ⌜ Analysed (was types) (was fun) (was forms) (was whats) (was out) (after forms) (after whats) (after out) r ⌝ }
 {
-    let mut kept = [0u32; 256];
+    let mut memo = [0u32; 512];
     let l = nlocals(fun);
     let n = nblocks(fun);
     let a = 4 + l + n;
@@ -227,7 +222,7 @@ pub fn analyse(
         fun,
         points,
         ranks,
-        &mut kept,
+        &mut memo,
         forms,
         whats,
         out,
@@ -242,7 +237,7 @@ pub fn analyse(
         fun,
         points,
         ranks,
-        &mut kept,
+        &mut memo,
         forms,
         whats,
         out,

@@ -1,5 +1,4 @@
 -- What the proofs of join share.
-pub mod Reading
 pub mod Outs
 pub mod Settles
 pub mod Joins

@@ -6,13 +6,14 @@ use mathlib.Core.List.{List}
 use Prim.Native.Nat.{ℕ, _+_, _≤_, _<_}
 use native.Mathlib.Decide.{decLe}
 use native.Mathlib.Omega.{arith}
-use lib.ListN.{length, set}
+use lib.ListN.{length}
 use Rattle.model.specs.Types.{kind, form}
 use Rattle.model.specs.Tree.{Tree, leaf, node, Forest, nil, more, size, sizes}
 use Rattle.records.specs.Codes.{size-pos}
 use Rattle.records.specs.Written.{leaf-written, node-written, none-written, more-written}
-use Rattle.join.specs.declared.trees.Ends.{Ends}
-use Rattle.join.specs.Ends.{ended, Done, Out, Wrote, WroteAll}
+use Rattle.join.specs.declared.ends.Marks.{Marks}
+use Rattle.join.specs.declared.ends.Ends.{Ends}
+use Rattle.join.specs.Ends.{Arrays, stored, marks, ended, Done, Out, Wrote, WroteAll}
 
 module _ {n : ℕ} {W : ℕ → Type 0} {a b : ℕ} {c : Bool} {r : Ends} where
   -- no room was left: what was to be written goes past 512
@@ -36,8 +37,8 @@ module _ {n : ℕ} {W : ℕ → Type 0} {a b : ℕ} {c : Bool} {r : Ends} where
   out-done d h = record { over = λ l. absurd (omega arith); done = λ l. d }
 
 -- what `reached` gives
-pub done-ended : {W : ℕ → Type 0} {a b o : ℕ} {c : Bool} {r : Ends} → r ≡ ended a b o c → W o → Done W a b c r
-done-ended e w = rw e (record { fits = refl; first = refl; second = refl; changed = refl; written = w })
+pub done-ended : {W : ℕ → Type 0} {p : Marks} {a b : ℕ} {c d : Bool} {r : Ends} → r ≡ ended p d → p .first ≡ a → p .second ≡ b → d ≡ c → W (p .out) → Done W a b c r
+done-ended e f g h w = rw e (record { fits = refl; first = f; second = g; changed = h; written = w })
 
 -- what was written, told anew
 module _ {n : ℕ} {W : ℕ → Type 0} {a b i j : ℕ} {c d : Bool} {r q : Ends} (o : Out n W a b c r) where
@@ -46,17 +47,17 @@ module _ {n : ℕ} {W : ℕ → Type 0} {a b i j : ℕ} {c d : Bool} {r q : Ends
   again-full e f = out-full f (full-over o e)
 
   -- there was room
-  pub again-out : r .full ≡ false → q ≡ ended i j (r .out) d → Out n W i j d q
-  again-out e f = out-done (done-ended f (clear-done o e .written)) (clear-fits o e)
+  pub again-out : {p : Marks} {f : Bool} → r .full ≡ false → q ≡ ended p f → p .out ≡ r .to .out → p .first ≡ i → p .second ≡ j → f ≡ d → Out n W i j d q
+  again-out e t l f g h = out-done (done-ended t f g h (rw l (clear-done o e .written))) (clear-fits o e)
 
-module _ {Γ of ow of′ ow′ : List ℕ} {k a b : ℕ} {c : Bool} {r : Ends} where
+module _ {Γ : List ℕ} {out out′ : Arrays} {k a b : ℕ} {c : Bool} {r : Ends} where
   -- no word is left for a tree
-  pub tree-full : {y : Tree} → r .full ≡ true → 512 ≤ k → Wrote Γ of ow of′ ow′ k y a b c r
+  pub tree-full : {y : Tree} → r .full ≡ true → 512 ≤ k → Wrote Γ out out′ k y a b c r
   tree-full {y} e h = out-full e (omega (arith, size-pos y))
 
   -- an open node, then its children
-  pub node-out : {t v f : ℕ} {ys : Forest} {i j : ℕ} → k < length of → k < length ow → f ≡ form (kind Γ t)
-      → WroteAll Γ (set of k f) (set ow k v) of′ ow′ (k + 1) ys i j c r → i ≡ a → j ≡ b → Wrote Γ of ow of′ ow′ k (node t v ys) a b c r
+  pub node-out : {t v f : ℕ} {ys : Forest} {i j : ℕ} → k < length (out .forms) → k < length (out .whats) → f ≡ form (kind Γ t)
+      → WroteAll Γ (stored out k f v) out′ (k + 1) ys i j c r → i ≡ a → j ≡ b → Wrote Γ out out′ k (node t v ys) a b c r
   unfolding size
   node-out lf lw e o p q =
       record {
@@ -66,34 +67,34 @@ module _ {Γ of ow of′ ow′ : List ℕ} {k a b : ℕ} {c : Bool} {r : Ends} w
             record { fits = d .fits; first = d .first ∙ p; second = d .second ∙ q; changed = d .changed; written = node-written lf lw e (d .written) };
       }
 
-module _ {Γ of ow : List ℕ} {k a b : ℕ} {c : Bool} {r : Ends} where
+module _ {Γ : List ℕ} {out : Arrays} {a b : ℕ} {c : Bool} {r : Ends} where
   -- a folded tree
-  pub leaf-out : (t : ℕ) → k < 512 → length of ≡ 512 → length ow ≡ 512 → r ≡ ended a b (k + 1) c
-      → Wrote Γ of ow (set of k 0) (set ow k 0) k (leaf t) a b c r
+  pub leaf-out : {k : ℕ} (t : ℕ) → k < 512 → length (out .forms) ≡ 512 → length (out .whats) ≡ 512 → r ≡ ended (marks a b (k + 1)) c
+      → Wrote Γ out (stored out k 0 0) k (leaf t) a b c r
   unfolding size
-  leaf-out t l lf lw e = out-done (done-ended e (leaf-written t (omega arith) (omega arith))) (omega arith)
+  leaf-out t l lf lw e = out-done (done-ended e refl refl refl (leaf-written t (omega arith) (omega arith))) (omega arith)
 
   -- no tree
-  pub none-out : k ≤ 512 → r ≡ ended a b k c → WroteAll Γ of ow of ow k nil a b c r
+  pub none-out : {p : Marks} → p .out ≤ 512 → r ≡ ended p c → p .first ≡ a → p .second ≡ b → WroteAll Γ out out (p .out) nil a b c r
   unfolding sizes
-  none-out l e = out-done (done-ended e none-written) (omega arith)
+  none-out l e f g = out-done (done-ended e f g refl none-written) (omega arith)
 
 -- a tree y is written, and then ys are
-module _ {Γ of ow of′ ow′ of″ ow″ : List ℕ} {k a b : ℕ} {c : Bool} {r : Ends} {y : Tree} {ys : Forest} (o : Wrote Γ of ow of′ ow′ k y a b c r) where
+module _ {Γ : List ℕ} {out out′ out″ : Arrays} {k a b : ℕ} {c : Bool} {r : Ends} {y : Tree} {ys : Forest} (o : Wrote Γ out out′ k y a b c r) where
   -- no room for the first
-  pub more-full : {i j : ℕ} {d : Bool} {q : Ends} → r .full ≡ true → q .full ≡ true → WroteAll Γ of ow of″ ow″ k (more y ys) i j d q
+  pub more-full : {i j : ℕ} {d : Bool} {q : Ends} → r .full ≡ true → q .full ≡ true → WroteAll Γ out out″ k (more y ys) i j d q
   unfolding sizes
   more-full e f = out-full f (omega (arith, full-over o e))
 
-  module _ {i j : ℕ} {d : Bool} {s : Ends} (e : r .full ≡ false) (p : WroteAll Γ of′ ow′ of″ ow″ (r .out) ys i j d s) {g h : ℕ} {f : Bool} {q : Ends} where
+  module _ {i j : ℕ} {d : Bool} {s : Ends} (e : r .full ≡ false) (p : WroteAll Γ out′ out″ (r .to .out) ys i j d s) {g h : ℕ} {f : Bool} {q : Ends} where
     -- no room for the others
-    pub more-over : s .full ≡ true → q .full ≡ true → WroteAll Γ of ow of″ ow″ k (more y ys) g h f q
+    pub more-over : s .full ≡ true → q .full ≡ true → WroteAll Γ out out″ k (more y ys) g h f q
     unfolding sizes
     more-over z w = out-full w (omega (arith, clear-done o e .written .end, full-over p z))
 
     -- room for all
-    pub more-out : s .full ≡ false → q ≡ ended g h (s .out) f → WroteAll Γ of ow of″ ow″ k (more y ys) g h f q
+    pub more-out : {x : Bool} → s .full ≡ false → q ≡ ended (s .to) x → s .to .first ≡ g → s .to .second ≡ h → x ≡ f → WroteAll Γ out out″ k (more y ys) g h f q
     unfolding sizes
-    more-out z l =
+    more-out z t l m n =
         let w = clear-done o e .written in
-        out-done (done-ended l (more-written w (clear-done p z .written))) (omega (arith, w .end, clear-fits p z))
+        out-done (done-ended t l m n (more-written w (clear-done p z .written))) (omega (arith, w .end, clear-fits p z))

@@ -8,6 +8,7 @@ use Rattle.model.specs.Answer.{Answer, refused, done}
 use Rattle.model.specs.Tree.{Forest, sizes, joins, flagss}
 use Rattle.model.specs.State as Model
 use Rattle.model.specs.Promised.{One-of, join-numbers, Join-Promise}
+use Rattle.records.specs.Here.{Holds}
 use Rattle.state.specs.Value.{value}
 use Rattle.state.specs.declared.nodes.State.{State}
 use Rattle.join.specs.declared.trees.Joined.{Joined}
@@ -25,6 +26,14 @@ pub record JoinedIn (Γ : List ℕ) (S E : Forest) (r : Joined) (of ow : List �
   pub answer : r ≡ joined Γ S E
   pub forms : sizes (joins Γ false S E) ≤ 512 → of ≡ (Model.encode Γ (joins Γ false S E)) .forms
   pub whats : sizes (joins Γ false S E) ≤ 512 → ow ≡ (Model.encode Γ (joins Γ false S E)) .whats
+
+-- some state stands in s
+abbrev pub Given : List ℕ → List ℕ → State → Type 0
+Given Γ locals s = (S : Forest) × Holds Γ locals (value s) S
+
+-- r and the arrays are the join of the states that stand in s and e
+abbrev pub JoinedAs : List ℕ → List ℕ → State → State → Joined → List ℕ → List ℕ → Type 0
+JoinedAs Γ locals s e r of ow = (S E : Forest) → Holds Γ locals (value s) S → Holds Γ locals (value e) E → JoinedIn Γ S E r of ow
 
 abbrev pub flag-of : Answer (Bool × Model.State) → Flag
 flag-of (refused n) = Refused n

@@ -4,6 +4,8 @@ ghost use Rattle.model.specs.Calls.{call-join};
 ghost use Rattle.state.specs.Value.{value};
 ghost use Rattle.join.specs.Answers.{refusal, Joins, Promises};
 
+pub mod ends;
+pub mod settle;
 pub mod trees;
 
 use input::check_given;

@@ -1,248 +1,121 @@
 // `PlaceNode::join` and `Env::join`, over preorder arrays: two trees are read, their join is written to a third place.
 ghost use mathlib.Core.Path.{_≡_};
-ghost use mathlib.Core.Bool.{true, false, not, _&&_, _||_};
-ghost use Prim.Native.Nat.{_<_, _≤_};
-ghost use lib.ListN.{length};
-ghost use lib.Dec.{eqb};
-ghost use Rattle.model.specs.Types.{ntypes, parts, sticky};
-ghost use Rattle.model.specs.Tree.{Forest};
+ghost use mathlib.Core.Bool.{true, false};
+ghost use Prim.Native.Nat.{_<_};
+ghost use Rattle.moments.specs.Lent.{was, after};
+ghost use Rattle.model.specs.Types.{ntypes};
 ghost use Rattle.model.specs.State.{locals-ok};
-ghost use Rattle.records.specs.Here.{Here, Heres, Holds};
+ghost use Rattle.records.specs.Here.{Here, Heres};
 ghost use Rattle.type_record.specs.Sizes.{Ready};
-ghost use Rattle.state.specs.Value.{value};
-ghost use Rattle.state.specs.Found.{Fields};
-ghost use Rattle.join.specs.Ends.{ended, Room, Settled, SettledAll, Met, MetAll};
-ghost use Rattle.join.specs.Answers.{JoinedIn};
+ghost use Rattle.state.specs.Kids.{KidsIn, kid-types};
+ghost use Rattle.join.specs.Ends.{Room, arrays, marks, Met, MetAll};
+ghost use Rattle.join.specs.Answers.{Given, JoinedAs};
+use crate::ends::Ends;
+use crate::ends::Marks;
+use crate::ends::either;
+use crate::ends::overfull;
+use crate::ends::reached;
+use crate::ends::stays;
+use crate::settle::settle_node;
 use state::edit::clear;
+use state::kids::Kids;
+use state::kids::first_kid;
 use state::kids::kids_of;
+use state::kids::rest_of_kids;
 use state::nodes::State;
 use state::nodes::node_end;
 use type_record::kinds::below;
-use type_record::kinds::sticky;
 use type_record::record::kind_of;
-use type_record::record::part_at;
 use type_record::record::wide;
 
-// Just past what was read of each tree, and just past what was written; whether the first tree changed; no room was left.
-pub struct Ends {
-    pub first: usize,
-    pub second: usize,
-    pub out: usize,
-    pub changed: bool,
-    pub full: bool,
-}
-
-fn reached(first: usize, second: usize, out: usize, changed: bool) -> Ends
-    ensures { λ r. ⌜ r ≡ ended first second out changed ⌝ }
-{
-    Ends {
-        first,
-        second,
-        out,
-        changed,
-        full: false,
-    }
-}
-
-fn overfull() -> Ends
-    ensures { λ r. ⌜ r .full ≡ true ⌝ }
-{
-    Ends {
-        first: 0,
-        second: 0,
-        out: 0,
-        changed: false,
-        full: true,
-    }
-}
-
-fn either(a: bool, b: bool) -> bool
-    ensures { λ r. ⌜ r ≡ (a || b) ⌝ }
-{
-    if a {
-        return true;
-    }
-    b
-}
-
-// Does a node of form f and kind k stay open when it meets a folded one?
-fn stays(f: u16, m: bool, k: u32) -> bool
-    ensures { λ r. ⌜ r ≡ (not (eqb f 0) && sticky m k) ⌝ }
-{
-    if f == 0 {
-        return false;
-    }
-    sticky(m, k)
-}
-
-// Joins the tree of type t at i with a folded one. changed: some node of it was folded.
-fn settle_node<'a>(
-    types: &[u32],
-    offs: &[u32],
-    forms: &'a [u16],
-    whats: &'a [u16],
-    i: usize,
-    t: usize,
-    m: bool,
-    of: &mut [u16],
-    ow: &mut [u16],
-    k: usize,
-) -> Ends
-    requires { ⌜ Ready (now types) (now offs) ⌝ }
-    requires { ⌜ t < ntypes (now types) ⌝ }
-    requires { ⌜ Here (now types) (now forms) (now whats) i t ⌝ }
-    requires { ⌜ Room (now of) (now ow) k ⌝ }
-    ensures { λ r. ⌜ Settled (now (types .entry)) (now (of .entry)) (now (ow .entry)) (now (of .exit)) (now (ow .exit)) k (now (forms .entry)) (now (whats .entry)) i t m r ⌝ }
-{
-    if 512 <= k {
-        return overfull();
-    }
-    let f = forms[i];
-    let kind = kind_of(types, t);
-    if stays(f, m, kind) {
-        let w = whats[i];
-        of[k] = f;
-        ow[k] = w;
-        let ks = kids_of(types, offs, t, w);
-        return settle_fields(
-            types,
-            offs,
-            forms,
-            whats,
-            i + 1,
-            ks.owner,
-            ks.first,
-            ks.count,
-            below(m, kind),
-            of,
-            ow,
-            k + 1,
-        );
-    }
-    of[k] = 0;
-    ow[k] = 0;
-    let e = node_end(types, offs, forms, whats, i, t);
-    reached(e, 0, k + 1, f != 0)
-}
-
-fn settle_fields<'a>(
-    types: &[u32],
-    offs: &[u32],
-    forms: &'a [u16],
-    whats: &'a [u16],
-    i: usize,
-    u: usize,
-    j: usize,
-    n: usize,
-    m: bool,
-    of: &mut [u16],
-    ow: &mut [u16],
-    k: usize,
-) -> Ends
-    requires { ⌜ Ready (now types) (now offs) ⌝ }
-    requires { ⌜ Fields (now types) u j n ⌝ }
-    requires { ⌜ Heres (now types) (now forms) (now whats) i (parts (now types) u j n) ⌝ }
-    requires { ⌜ Room (now of) (now ow) k ⌝ }
-    ensures { λ r. ⌜ SettledAll (now (types .entry)) (now (of .entry)) (now (ow .entry)) (now (of .exit)) (now (ow .exit)) k (now (forms .entry)) (now (whats .entry)) i (parts (now (types .entry)) u j n) m r ⌝ }
-{
-    if n == 0 {
-        return reached(i, 0, k, false);
-    }
-    let t = part_at(types, offs, u, j);
-    let a = settle_node(types, offs, forms, whats, i, t, m, of, ow, k);
-    if a.full {
-        return overfull();
-    }
-    let b = settle_fields(
-        types,
-        offs,
-        forms,
-        whats,
-        a.first,
-        u,
-        j + 1,
-        n - 1,
-        m,
-        of,
-        ow,
-        a.out,
-    );
-    if b.full {
-        return overfull();
-    }
-    reached(b.first, 0, b.out, either(a.changed, b.changed))
-}
-
+// Joins the trees of type t that stand at from.first of the first arrays and at from.second of the second.
 fn join_node<'a>(
     types: &[u32],
     offs: &[u32],
     f1: &'a [u16],
     w1: &'a [u16],
-    i1: usize,
     f2: &'a [u16],
     w2: &'a [u16],
-    i2: usize,
+    from: Marks,
     t: usize,
     m: bool,
     of: &mut [u16],
     ow: &mut [u16],
-    k: usize,
 ) -> Ends
     requires { ⌜ Ready (now types) (now offs) ⌝ }
     requires { ⌜ t < ntypes (now types) ⌝ }
-    requires { ⌜ Here (now types) (now f1) (now w1) i1 t ⌝ }
-    requires { ⌜ Here (now types) (now f2) (now w2) i2 t ⌝ }
-    requires { ⌜ Room (now of) (now ow) k ⌝ }
-    ensures { λ r. ⌜ Met (now (types .entry)) (now (of .entry)) (now (ow .entry)) (now (of .exit)) (now (ow .exit)) k (now (f1 .entry)) (now (w1 .entry)) i1 (now (f2 .entry)) (now (w2 .entry)) i2 t m r ⌝ }
+    requires { ⌜ Here (now types) (now f1) (now w1) (from .first) t ⌝ }
+    requires { ⌜ Here (now types) (now f2) (now w2) (from .second) t ⌝ }
+    requires { ⌜ Room (now of) (now ow) (from .out) ⌝ }
+    ensures { λ r. ⌜ Met (was types) (arrays (was of) (was ow)) (arrays (after of) (after ow)) (arrays (was f1) (was w1)) (arrays (was f2) (was w2)) from t m r ⌝ }
 {
+    let i = from.first;
+    let j = from.second;
+    let k = from.out;
     let kind = kind_of(types, t);
-    let f = f1[i1];
-    let g = f2[i2];
+    let f = f1[i];
+    let g = f2[j];
     if f == 0 {
-        let a = settle_node(types, offs, f2, w2, i2, t, m, of, ow, k);
+        let a = settle_node(types, offs, f2, w2, j, t, m, of, ow, k);
         if a.full {
             return overfull();
         }
-        return reached(i1 + 1, a.first, a.out, stays(g, m, kind));
+        let past = a.to;
+        let to = Marks {
+            first: i + 1,
+            second: past.first,
+            out: past.out,
+        };
+        return reached(to, stays(g, m, kind));
     }
     if g == 0 {
-        let a = settle_node(types, offs, f1, w1, i1, t, m, of, ow, k);
+        let a = settle_node(types, offs, f1, w1, i, t, m, of, ow, k);
         if a.full {
             return overfull();
         }
-        return reached(a.first, i2 + 1, a.out, a.changed);
+        let past = a.to;
+        let to = Marks {
+            first: past.first,
+            second: j + 1,
+            out: past.out,
+        };
+        return reached(to, a.changed);
     }
     if k >= 512 {
         return overfull();
     }
-    let w = w1[i1];
-    if w == w2[i2] {
+    let w = w1[i];
+    if w == w2[j] {
         of[k] = f;
         ow[k] = w;
         let ks = kids_of(types, offs, t, w);
+        let inside = Marks {
+            first: i + 1,
+            second: j + 1,
+            out: k + 1,
+        };
         return join_fields(
             types,
             offs,
             f1,
             w1,
-            i1 + 1,
             f2,
             w2,
-            i2 + 1,
-            ks.owner,
-            ks.first,
-            ks.count,
+            inside,
+            ks,
             below(m, kind),
             of,
             ow,
-            k + 1,
         );
     }
     of[k] = 0;
     ow[k] = 0;
-    let e1 = node_end(types, offs, f1, w1, i1, t);
-    let e2 = node_end(types, offs, f2, w2, i2, t);
-    reached(e1, e2, k + 1, true)
+    let to = Marks {
+        first: node_end(types, offs, f1, w1, i, t),
+        second: node_end(types, offs, f2, w2, j, t),
+        out: k + 1,
+    };
+    reached(to, true)
 }
 
 fn join_fields<'a>(
@@ -250,54 +123,35 @@ fn join_fields<'a>(
     offs: &[u32],
     f1: &'a [u16],
     w1: &'a [u16],
-    i1: usize,
     f2: &'a [u16],
     w2: &'a [u16],
-    i2: usize,
-    u: usize,
-    j: usize,
-    n: usize,
+    from: Marks,
+    ks: Kids,
     m: bool,
     of: &mut [u16],
     ow: &mut [u16],
-    k: usize,
 ) -> Ends
     requires { ⌜ Ready (now types) (now offs) ⌝ }
-    requires { ⌜ Fields (now types) u j n ⌝ }
-    requires { ⌜ Heres (now types) (now f1) (now w1) i1 (parts (now types) u j n) ⌝ }
-    requires { ⌜ Heres (now types) (now f2) (now w2) i2 (parts (now types) u j n) ⌝ }
-    requires { ⌜ Room (now of) (now ow) k ⌝ }
-    ensures { λ r. ⌜ MetAll (now (types .entry)) (now (of .entry)) (now (ow .entry)) (now (of .exit)) (now (ow .exit)) k (now (f1 .entry)) (now (w1 .entry)) i1 (now (f2 .entry)) (now (w2 .entry)) i2 (parts (now (types .entry)) u j n) m r ⌝ }
+    requires { ⌜ KidsIn (now types) ks ⌝ }
+    requires { ⌜ Heres (now types) (now f1) (now w1) (from .first) (kid-types (now types) ks) ⌝ }
+    requires { ⌜ Heres (now types) (now f2) (now w2) (from .second) (kid-types (now types) ks) ⌝ }
+    requires { ⌜ Room (now of) (now ow) (from .out) ⌝ }
+    ensures { λ r. ⌜ MetAll (was types) (arrays (was of) (was ow)) (arrays (after of) (after ow)) (arrays (was f1) (was w1)) (arrays (was f2) (was w2)) from (kid-types (was types) ks) m r ⌝ }
 {
-    if n == 0 {
-        return reached(i1, i2, k, false);
+    if ks.count == 0 {
+        return reached(from, false);
     }
-    let t = part_at(types, offs, u, j);
-    let a = join_node(types, offs, f1, w1, i1, f2, w2, i2, t, m, of, ow, k);
+    let t = first_kid(types, offs, ks);
+    let a = join_node(types, offs, f1, w1, f2, w2, from, t, m, of, ow);
     if a.full {
         return overfull();
     }
-    let b = join_fields(
-        types,
-        offs,
-        f1,
-        w1,
-        a.first,
-        f2,
-        w2,
-        a.second,
-        u,
-        j + 1,
-        n - 1,
-        m,
-        of,
-        ow,
-        a.out,
-    );
+    let rest = rest_of_kids(ks);
+    let b = join_fields(types, offs, f1, w1, f2, w2, a.to, rest, m, of, ow);
     if b.full {
         return overfull();
     }
-    reached(b.first, b.second, b.out, either(a.changed, b.changed))
+    reached(b.to, either(a.changed, b.changed))
 }
 
 // What a join of two states gives: the nodes of the result and whether the first state changed, or no room.
@@ -322,31 +176,23 @@ fn join_locals<'a>(
     requires { ⌜ Heres (now types) (now f1) (now w1) 0 (now locals) ⌝ }
     requires { ⌜ Heres (now types) (now f2) (now w2) 0 (now locals) ⌝ }
     requires { ⌜ Room (now of) (now ow) 0 ⌝ }
-    ensures { λ r. ⌜ MetAll (now (types .entry)) (now (of .entry)) (now (ow .entry)) (now (of .exit)) (now (ow .exit)) 0 (now (f1 .entry)) (now (w1 .entry)) 0 (now (f2 .entry)) (now (w2 .entry)) 0 (now (locals .entry)) false r ⌝ }
+    ensures { λ r. ⌜ MetAll (was types) (arrays (was of) (was ow)) (arrays (after of) (after ow)) (arrays (was f1) (was w1)) (arrays (was f2) (was w2)) (marks 0 0 0) (was locals) false r ⌝ }
 {
     let n = locals.len();
-    let mut e = reached(0, 0, 0, false);
+    let start = Marks {
+        first: 0,
+        second: 0,
+        out: 0,
+    };
+    let mut e = reached(start, false);
     let mut l = 0;
     while l < n {
-        let a = join_node(
-            types,
-            offs,
-            f1,
-            w1,
-            e.first,
-            f2,
-            w2,
-            e.second,
-            wide(locals[l]),
-            false,
-            of,
-            ow,
-            e.out,
-        );
+        let t = wide(locals[l]);
+        let a = join_node(types, offs, f1, w1, f2, w2, e.to, t, false, of, ow);
         if a.full {
             return overfull();
         }
-        e = reached(a.first, a.second, a.out, either(e.changed, a.changed));
+        e = reached(a.to, either(e.changed, a.changed));
         l += 1;
     }
     e
@@ -364,10 +210,10 @@ pub fn join_into(
 ) -> Joined
     requires { ⌜ Ready (now types) (now offs) ⌝ }
     requires { ⌜ locals-ok (now types) (now locals) ≡ true ⌝ }
-    requires { ⌜ ((S : Forest) × Holds (now types) (now locals) (value s) S) ⌝ }
-    requires { ⌜ ((E : Forest) × Holds (now types) (now locals) (value e) E) ⌝ }
+    requires { ⌜ Given (now types) (now locals) s ⌝ }
+    requires { ⌜ Given (now types) (now locals) e ⌝ }
     requires { ⌜ Room (now of) (now ow) 0 ⌝ }
-    ensures { λ r. ⌜ ((S E : Forest) → Holds (now (types .entry)) (now (locals .entry)) (value s) S → Holds (now (types .entry)) (now (locals .entry)) (value e) E → JoinedIn (now (types .entry)) S E r (now (of .exit)) (now (ow .exit))) ⌝ }
+    ensures { λ r. ⌜ JoinedAs (was types) (was locals) s e r (after of) (after ow) ⌝ }
 {
     let r = join_locals(
         types,
@@ -383,7 +229,8 @@ pub fn join_into(
     if r.full {
         return Joined::Full;
     }
-    let k = r.out;
+    let to = r.to;
+    let k = to.out;
     clear(of, k, 512);
     clear(ow, k, 512);
     Joined::To {

@@ -6,4 +6,4 @@ pub mod Sizes
 -- one turn of a loop that tests every number below n
 pub mod Each
 -- one turn of the walk over the items
-pub mod Items
+pub mod Turns

@@ -16,6 +16,18 @@ use crate::function::op_of;
 use crate::function::rank_of;
 use crate::function::start_of;
 use crate::function::stop_of;
+use crate::items::ARM;
+use crate::items::DEREF;
+use crate::items::DOWNCAST;
+use crate::items::FIELD;
+use crate::items::INDEX;
+use crate::items::NOTE;
+use crate::items::READ;
+use crate::items::ROOT;
+use crate::items::STOP;
+use crate::items::SWITCH;
+use crate::items::TARGET;
+use crate::items::USE;
 use type_record::record::kind_of;
 use type_record::record::wide;
 
@@ -44,7 +56,7 @@ pub fn may_follow(before: u32, next: u32) -> bool
     requires { ⌜ before ≤ 8 ⌝ }
     ensures { λ r. ⌜ r ≡ may-follow before next ⌝ }
 {
-    if 12 < next {
+    if STOP < next {
         return false;
     }
     let b = wide(before);
@@ -66,10 +78,10 @@ fn after_action(before: u32, op: u32) -> u32
     requires { ⌜ (5 ≤ op) × (op ≤ 7) ⌝ }
     ensures { λ r. ⌜ r ≡ after before op ⌝ }
 {
-    if op == 6 {
+    if op == READ {
         return 4;
     }
-    if op == 7 {
+    if op == NOTE {
         return 2;
     }
     if before == 1 { 0 } else { 2 }
@@ -79,13 +91,13 @@ fn after_ender(before: u32, op: u32) -> u32
     requires { ⌜ 8 ≤ op ⌝ }
     ensures { λ r. ⌜ r ≡ after before op ⌝ }
 {
-    if op == 8 {
+    if op == SWITCH {
         return 6;
     }
-    if op == 9 {
+    if op == ARM {
         return 7;
     }
-    if op == 10 {
+    if op == TARGET {
         if before == 7 {
             return 6;
         }
@@ -98,9 +110,9 @@ pub fn after(before: u32, op: u32) -> u32
     ensures { λ r. ⌜ r ≡ after before op ⌝ }
 {
     match op {
-        0 => after_root(before),
-        1..=4 => before,
-        5..=7 => after_action(before, op),
+        ROOT => after_root(before),
+        DEREF..=INDEX => before,
+        USE..=NOTE => after_action(before, op),
         _ => after_ender(before, op),
     }
 }
@@ -114,8 +126,8 @@ fn arg_ok(fun: &[u32], i: usize) -> bool
     let o = op_of(fun, i);
     let a = arg_of(fun, i);
     match o {
-        10 => wide(a) < nblocks(fun),
-        0 | 2 | 3 | 9 => true,
+        TARGET => wide(a) < nblocks(fun),
+        ROOT | FIELD | DOWNCAST | ARM => true,
         _ => a == 0,
     }
 }

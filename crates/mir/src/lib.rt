@@ -1,3 +1,4 @@
 // The function record: reading it, and refusal 2.
 pub mod check_function;
 pub mod function;
+pub mod items;

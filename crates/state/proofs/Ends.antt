@@ -1,12 +1,9 @@
 -- An answer `End` shown: where a tree ends, or that there is none.
-use mathlib.Core.Path.{_≡_, subst}
+use mathlib.Core.Path.{subst}
 use mathlib.Core.Bool.{true≢false}
 use Prim.Native.Nat.{ℕ}
 use Rattle.state.specs.declared.check_state.End.{End}
-
--- F holds of the end, A where there is none
-abbrev pub Says : (ℕ → Type 0) → Type 0 → End → Type 0
-Says F A r = ((e : ℕ) → r ≡ End.At e → F e) × (r ≡ End.Missing → A)
+use Rattle.state.specs.Checked.{Says}
 
 module _ (F : ℕ → Type 0) (A : Type 0) where
   -- it ends at e

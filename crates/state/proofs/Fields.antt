@@ -1,13 +1,16 @@
 -- What a type record that passes says to a walk: the children of an open node are parts of its owner, are there, and are types.
-use mathlib.Core.Path.{subst}
-use mathlib.Core.List.{List}
+use mathlib.Core.Path.{_≡_, _∙_, ap, subst}
+use mathlib.Core.List.{List, []}
 use Prim.Native.Nat.{ℕ, _+_, _-_, _<_}
 use native.Mathlib.Omega.{arith}
-use Rattle.model.specs.Types.{ntypes, count, part, owner, first}
+use Rattle.model.specs.Types.{ntypes, count, part, parts, owner, first}
 use Rattle.model.specs.Typing.{Openable}
 use Rattle.base.specs.Typed.{Typed, types-typed, owner-known, first-fits, kid-placed}
+use Rattle.base.specs.Parts.{parts-none}
 use Rattle.type_record.specs.Sizes.{Sized, Counted, Ready}
+use Rattle.state.specs.declared.kids.Kids.{Kids}
 use Rattle.state.specs.Found.{Fields}
+use Rattle.state.specs.Kids.{kid-types}
 
 module _ {Γ os : List ℕ} (h : Ready Γ os) where
   -- its words
@@ -48,3 +51,7 @@ module _ {Γ : List ℕ} {u j n : ℕ} (h : Fields Γ u j n) (p : 0 < n) where
         inside = omega arith;
         types = λ k m. subst (λ (i : ℕ). part Γ u i < ntypes Γ) (omega arith) (h .types (k + 1) (omega arith));
       }
+
+-- no child is left
+pub no-kids : (Γ : List ℕ) (ks : Kids) → ks .count ≡ 0 → kid-types Γ ks ≡ []
+no-kids Γ ks e = ap (parts Γ (ks .owner) (ks .first)) e ∙ parts-none Γ (ks .owner) (ks .first)

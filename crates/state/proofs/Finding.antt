@@ -6,14 +6,13 @@ use native.Mathlib.Numerals.{add-one}
 use native.Mathlib.Omega.{arith}
 use lib.ListN.{length, getD, drop, drop-of-length-le}
 use lib.Seq.{drop-cons}
-use Rattle.model.specs.Types.{kind, part, parts, kids, form}
+use Rattle.model.specs.Types.{kind, kids, form}
 use Rattle.model.specs.Tree.{leaf, node, nil, more, size, sizes}
 use Rattle.model.specs.Typing.{Openable, depth, depths}
 use Rattle.records.specs.Here.{CodedAll}
 use Rattle.base.specs.Kinds.{Known}
 use Rattle.records.specs.Coded.{coded-split, coded-none, coded-unique}
 use Rattle.records.specs.Built.{leaf-coded, node-coded, none-coded, more-coded}
-use Rattle.base.specs.Parts.{parts-none, parts-cons}
 use Rattle.records.specs.Absent.{Absent, AbsentAll, absent-first, absent-rest}
 use Rattle.state.specs.Found.{Found, FoundAll}
 
@@ -81,28 +80,24 @@ found-node {t} {v} h lf lw o e g p f =
       within = f .within;
     }
 
--- THE PARTS OF A TYPE
+-- trees of the types us
+module _ {Γ fs ws us : List ℕ} {n d i : ℕ} where
+  -- none of them
+  pub found-nothing : us ≡ [] → i ≤ n → FoundAll Γ fs ws n d i us i
+  found-nothing e h = rw e (found-none h)
 
-module _ {Γ fs ws : List ℕ} {n d i : ℕ} (u j m : ℕ) where
-  -- no part left
-  pub found-no-part : m ≡ 0 → i ≤ n → FoundAll Γ fs ws n d i (parts Γ u j m) i
-  found-no-part e h = subst (λ (ts : List ℕ). FoundAll Γ fs ws n d i ts i) (sym (ap (parts Γ u j) e ∙ parts-none Γ u j)) (found-none h)
+  module _ {t : ℕ} {ts : List ℕ} (p : us ≡ t ∷ ts) where
+    -- a tree of the first type, and trees of the others
+    pub found-both : {e k : ℕ} → Found Γ fs ws n d i t e → FoundAll Γ fs ws n d e ts k → FoundAll Γ fs ws n d i us k
+    found-both f g = rw p (found-more f g)
 
-  -- a tree at the first part, and trees at the others
-  pub found-part : {e k : ℕ} → 0 < m → Found Γ fs ws n d i (part Γ u j) e → FoundAll Γ fs ws n d e (parts Γ u (j + 1) (m - 1)) k
-      → FoundAll Γ fs ws n d i (parts Γ u j m) k
-  found-part {e} {k} p f g = subst (λ (ts : List ℕ). FoundAll Γ fs ws n d i ts k) (sym (parts-cons Γ u j m p)) (found-more f g)
+    -- no tree of the first
+    pub absent-one : Absent Γ fs ws n d i t → AbsentAll Γ fs ws n d i us
+    absent-one a = rw p (absent-first a)
 
-  -- no tree at the first part
-  pub absent-part : 0 < m → Absent Γ fs ws n d i (part Γ u j) → AbsentAll Γ fs ws n d i (parts Γ u j m)
-  absent-part p a = subst (AbsentAll Γ fs ws n d i) (sym (parts-cons Γ u j m p)) (absent-first a)
-
-  -- no trees at the others
-  pub absent-parts : {e : ℕ} → 0 < m → Known Γ → Found Γ fs ws n d i (part Γ u j) e → AbsentAll Γ fs ws n d e (parts Γ u (j + 1) (m - 1))
-      → AbsentAll Γ fs ws n d i (parts Γ u j m)
-  absent-parts p known f a =
-      subst (AbsentAll Γ fs ws n d i) (sym (parts-cons Γ u j m p))
-      (absent-rest known (f .coded) (subst (λ (k : ℕ). AbsentAll Γ fs ws n d k (parts Γ u (j + 1) (m - 1))) (f .end) a))
+    -- no trees of the others
+    pub absent-others : {e : ℕ} → Known Γ → Found Γ fs ws n d i t e → AbsentAll Γ fs ws n d e ts → AbsentAll Γ fs ws n d i us
+    absent-others known f a = rw p (absent-rest known (f .coded) (subst (λ (k : ℕ). AbsentAll Γ fs ws n d k ts) (f .end) a))
 
 -- THE LOCALS
 

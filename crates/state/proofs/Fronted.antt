@@ -1,5 +1,5 @@
 -- An array that is zero past its first n words, or cleared from there on. Assumes nothing.
-use mathlib.Core.Path.{_≡_, ap, _∙_}
+use mathlib.Core.Path.{_≡_, sym, ap, ap₂, _∙_}
 use mathlib.Core.Bool.{true}
 use mathlib.Core.List.{List, _++_, append-nil}
 use Prim.Native.Nat.{ℕ, _-_, _≤_}
@@ -16,6 +16,11 @@ unfolding fronted padded
 fronted-is l n h e z =
     let long : length (take n l) ≡ n = length-take-le n l (omega arith) in
     rw long at (padded-take l n h e z)
+
+-- k words in front of zeros are those words, padded
+pub padded-fronted : (a l : List ℕ) (k : ℕ) → take k a ≡ l → length l ≡ k → fronted a k ≡ padded l
+unfolding fronted padded
+padded-fronted a l k e d = ap₂ (λ (x : List ℕ) (n : ℕ). x ++ replicate (512 - n) 0) e (sym d)
 
 -- cleared from n on
 pub cleared-fronted : (l : List ℕ) (n : ℕ) → length l ≡ most → cleared l n 512 ≡ fronted l n

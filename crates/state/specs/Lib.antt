@@ -3,3 +3,4 @@ pub mod Value
 pub mod Found
 pub mod Spliced
 pub mod Kids
+pub mod Checked

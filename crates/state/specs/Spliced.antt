@@ -1,9 +1,7 @@
 -- Arrays of 512 made anew, and changed where they stand.
-use mathlib.Core.Path.{_≡_}
 use mathlib.Core.List.{List, _++_}
 use Prim.Native.Nat.{ℕ, _+_, _-_}
 use lib.ListN.{take, drop, replicate}
-use Rattle.state.specs.declared.nodes.State.{State}
 
 -- the first n words, then zeros
 unfoldable pub fronted : List ℕ → ℕ → List ℕ
@@ -20,9 +18,3 @@ moved a from end to = take to a ++ (take (end - from) (drop from a) ++ drop (to 
 -- of the first n words those before i, then `gap` zeros, then those from j on, then zeros
 unfoldable pub splice : List ℕ → ℕ → ℕ → ℕ → ℕ → List ℕ
 splice a i gap j n = take i a ++ (replicate gap 0 ++ (take (n - j) (drop j a) ++ replicate (512 - (i + gap + (n - j))) 0))
-
--- in r the nodes of s from i up to j have given way to `gap` folded ones
-pub record Replaced (s : State) (i j gap : ℕ) (r : State) : Type 0 where
-  pub forms : r .forms ≡ splice (s .forms) i gap j (s .nodes)
-  pub whats : r .whats ≡ splice (s .whats) i gap j (s .nodes)
-  pub nodes : r .nodes ≡ i + gap + (s .nodes - j)

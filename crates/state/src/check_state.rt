@@ -1,24 +1,25 @@
 // Refusal 3: is a state record one of these local types?
 ghost use mathlib.Core.Path.{_≡_};
-ghost use mathlib.Core.Bool.{true, false};
-ghost use Prim.Native.Nat.{ℕ, _<_, _≤_};
+ghost use mathlib.Core.Bool.{true};
+ghost use Prim.Native.Nat.{_<_, _≤_};
 ghost use lib.ListN.{length, drop};
-ghost use Rattle.model.specs.Types.{ntypes, parts};
-ghost use Rattle.model.specs.State.{levels, opens, zeros, decode, locals-ok};
-ghost use Rattle.records.specs.Absent.{Absent, AbsentAll};
+ghost use Rattle.model.specs.Types.{ntypes};
+ghost use Rattle.model.specs.State.{opens, zeros, decode, locals-ok};
 ghost use Rattle.type_record.specs.Sizes.{Sized, Ready};
 ghost use Rattle.mir.specs.Parts.{is-some};
 ghost use Rattle.state.specs.Value.{value};
-ghost use Rattle.state.specs.Found.{Fields, Found, FoundAll};
+ghost use Rattle.state.specs.Kids.{KidsIn, kid-types};
+ghost use Rattle.state.specs.Checked.{Checked, CheckedAll, CheckedLocals};
+use crate::kids::Kids;
+use crate::kids::first_kid;
+use crate::kids::kids_of;
+use crate::kids::rest_of_kids;
 use crate::nodes::State;
 use crate::nodes::wide16;
 use type_record::kinds::form_of;
 use type_record::kinds::shut;
 use type_record::record::count_of;
-use type_record::record::first_of;
 use type_record::record::kind_of;
-use type_record::record::owner_of;
-use type_record::record::part_at;
 use type_record::record::wide;
 
 // Where a tree ends, if there is one.
@@ -60,8 +61,7 @@ fn check_node<'a>(
     requires { ⌜ Ready (now types) (now offs) ⌝ }
     requires { ⌜ t < ntypes (now types) ⌝ }
     requires { ⌜ (n ≤ length (now forms)) × (n ≤ length (now whats)) ⌝ }
-    ensures found { λ r. ⌜ ((e : ℕ) → r ≡ End.At e → Found (now (types .entry)) (now (forms .entry)) (now (whats .entry)) n d i t e) ⌝ }
-    ensures missing { λ r. ⌜ (r ≡ End.Missing → Absent (now (types .entry)) (now (forms .entry)) (now (whats .entry)) n d i t) ⌝ }
+    ensures { λ r. ⌜ Checked (now (types .entry)) (now (forms .entry)) (now (whats .entry)) n d i t r ⌝ }
 {
     if n <= i {
         return End::Missing;
@@ -79,11 +79,8 @@ fn check_node<'a>(
     if d == 0 {
         return End::Missing;
     }
-    let v = wide16(w);
-    let u = owner_of(types, offs, t, v);
-    let j = first_of(types, t);
-    let m = count_of(types, u) - j;
-    check_fields(types, offs, forms, whats, n, i + 1, u, j, m, d - 1)
+    let ks = kids_of(types, offs, t, w);
+    check_fields(types, offs, forms, whats, n, i + 1, ks, d - 1)
 }
 
 fn check_fields<'a>(
@@ -93,26 +90,23 @@ fn check_fields<'a>(
     whats: &'a [u16],
     n: usize,
     i: usize,
-    u: usize,
-    j: usize,
-    m: usize,
+    ks: Kids,
     d: usize,
 ) -> End
     requires { ⌜ Ready (now types) (now offs) ⌝ }
-    requires { ⌜ Fields (now types) u j m ⌝ }
+    requires { ⌜ KidsIn (now types) ks ⌝ }
     requires { ⌜ (i ≤ n) × (n ≤ length (now forms)) × (n ≤ length (now whats)) ⌝ }
-    ensures found { λ r. ⌜ ((e : ℕ) → r ≡ End.At e → FoundAll (now (types .entry)) (now (forms .entry)) (now (whats .entry)) n d i (parts (now (types .entry)) u j m) e) ⌝ }
-    ensures missing { λ r. ⌜ (r ≡ End.Missing → AbsentAll (now (types .entry)) (now (forms .entry)) (now (whats .entry)) n d i (parts (now (types .entry)) u j m)) ⌝ }
+    ensures { λ r. ⌜ CheckedAll (now (types .entry)) (now (forms .entry)) (now (whats .entry)) n d i (kid-types (now (types .entry)) ks) r ⌝ }
 {
-    if m == 0 {
+    if ks.count == 0 {
         return End::At(i);
     }
-    let t = part_at(types, offs, u, j);
+    let t = first_kid(types, offs, ks);
     let r = check_node(types, offs, forms, whats, n, i, t, d);
     let End::At(e) = r else {
         return End::Missing;
     };
-    check_fields(types, offs, forms, whats, n, e, u, j + 1, m - 1, d)
+    check_fields(types, offs, forms, whats, n, e, rest_of_kids(ks), d)
 }
 
 fn check_locals<'a>(
@@ -126,8 +120,7 @@ fn check_locals<'a>(
     requires { ⌜ Ready (now types) (now offs) ⌝ }
     requires { ⌜ locals-ok (now types) (now locals) ≡ true ⌝ }
     requires { ⌜ (n ≤ length (now forms)) × (n ≤ length (now whats)) ⌝ }
-    ensures found { λ r. ⌜ (r ≡ true → FoundAll (now (types .entry)) (now (forms .entry)) (now (whats .entry)) n levels 0 (now (locals .entry)) n) ⌝ }
-    ensures missing { λ r. ⌜ (r ≡ false → FoundAll (now (types .entry)) (now (forms .entry)) (now (whats .entry)) n levels 0 (now (locals .entry)) n → ⊥) ⌝ }
+    ensures { λ r. ⌜ CheckedLocals (now (types .entry)) (now (forms .entry)) (now (whats .entry)) n (now (locals .entry)) r ⌝ }
 {
     let m = locals.len();
     let mut i = 0;

@@ -11,7 +11,7 @@ use Rattle.model.specs.Words.{word}
 use Rattle.model.specs.Record.{Entry}
 use Rattle.base.specs.Below.{below-suc}
 use Rattle.statements.specs.declared.Out.{Out}
-use Rattle.statements.specs.Kept.{room, Counted, Fits, Kept, Puts}
+use Rattle.statements.specs.Kept.{with-counts, room, Counted, Fits, Kept, Puts}
 use Rattle.statements.proofs.Puts.{puts-count, puts-room}
 
 -- op and arg of entry n, stored
@@ -48,7 +48,7 @@ module _ (out : List ℕ) (r n x y : ℕ) (e : r ≡ room (length out)) (h : n <
 
 -- the entries with one more
 fits-one : {k : ℕ} {es : List Entry} {out : List ℕ} {o : Out} (r x y : ℕ) → r ≡ room (length out) → o .entries < r → Fits k es out o
-    → Fits k (es ++ ((x, y) ∷ [])) (stored out r (o .entries) x y) (record { statements = o .statements; entries = o .entries + 1 })
+    → Fits k (es ++ ((x, y) ∷ [])) (stored out r (o .entries) x y) (with-counts o (o .statements) (o .entries + 1))
 fits-one {k} {es} {out} {o} r x y e h F =
     let n : length (es ++ ((x, y) ∷ [])) ≡ suc (o .entries) = length-append es ((x, y) ∷ []) ∙ omega (arith, F .entries) in
     let d : room (length (stored out r (o .entries) x y)) ≡ r = ap room (length-stored out r (o .entries) x y) ∙ sym e in
@@ -72,12 +72,13 @@ fits-one {k} {es} {out} {o} r x y e h F =
 
 -- one entry is put where there is room
 pub puts-one : {out : List ℕ} {o : Out} (r x y : ℕ) → Counted out o → r ≡ room (length out) → o .entries < r
-    → Puts 0 out o (stored out r (o .entries) x y) (record { statements = o .statements; entries = o .entries + 1 }) ((x, y) ∷ [])
+    → Puts 0 out o (stored out r (o .entries) x y) (with-counts o (o .statements) (o .entries + 1)) ((x, y) ∷ [])
 puts-one {out} {o} r x y C e h =
     let same : length (stored out r (o .entries) x y) ≡ length out = length-stored out r (o .entries) x y in
     let d : room (length (stored out r (o .entries) x y)) ≡ r = ap room same ∙ sym e in
     record {
       same = same;
+      recording = refl;
       counted = record { statements = omega (arith, C .statements); entries = omega arith };
       kept = λ k es K.
           let n : length (es ++ ((x, y) ∷ [])) ≡ length es + 1 = length-append es ((x, y) ∷ []) in
@@ -95,9 +96,10 @@ puts-one {out} {o} r x y C e h =
 
 -- one entry is put where there is none
 pub puts-full : {out : List ℕ} {o : Out} (r x y : ℕ) → Counted out o → r ≡ room (length out) → r ≤ o .entries
-    → Puts 0 out o out (record { statements = o .statements; entries = r + 1 }) ((x, y) ∷ [])
+    → Puts 0 out o out (with-counts o (o .statements) (r + 1)) ((x, y) ∷ [])
 puts-full {out} {o} r x y C e h = record {
   same = refl;
+  recording = refl;
   counted = record { statements = omega (arith, C .statements, C .entries); entries = omega arith };
   kept = λ k es K.
       let n : length (es ++ ((x, y) ∷ [])) ≡ length es + 1 = length-append es ((x, y) ∷ []) in
@@ -108,9 +110,10 @@ puts-full {out} {o} r x y C e h = record {
 
 -- entries that fit are counted as a statement more
 pub puts-statement : {a b : List ℕ} {o p : Out} {new : List Entry} → Counted a o → Puts 0 a o b p new → 0 < length new → p .entries ≤ room (length b)
-    → Puts 1 a o b (record { statements = o .statements + 1; entries = p .entries }) new
+    → Puts 1 a o b (with-counts o (o .statements + 1) (p .entries)) new
 puts-statement {a} {b} {o} {p} {new} C P l h = record {
   same = P .same;
+  recording = refl;
   counted = record { statements = omega (arith, C .statements, puts-count C P h); entries = omega arith };
   kept = λ k es K.
       let Q : Kept (k + 0) (es ++ new) b p = P .kept k es K in
@@ -124,9 +127,10 @@ puts-statement {a} {b} {o} {p} {new} C P l h = record {
 
 -- entries that do not fit are not counted
 pub puts-lost : {a b : List ℕ} {o p : Out} {new : List Entry} → Counted a o → Puts 0 a o b p new → room (length b) < p .entries
-    → Puts 1 a o b (record { statements = o .statements; entries = p .entries }) new
+    → Puts 1 a o b (with-counts o (o .statements) (p .entries)) new
 puts-lost {a} {b} {o} {p} {new} C P h = record {
   same = P .same;
+  recording = refl;
   counted = record { statements = omega (arith, C .statements, C .entries, ap room (P .same)); entries = P .counted .entries };
   kept = λ k es K.
       let Q : Kept (k + 0) (es ++ new) b p = P .kept k es K in

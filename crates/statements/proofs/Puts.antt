@@ -1,6 +1,7 @@
 -- A statement record that grows: it starts empty, nothing put changes nothing, two puts are one. How many entries a put counts, and
 -- what one entry more does.
 use mathlib.Core.Path.{_≡_, refl, sym, ap, _∙_, subst}
+use mathlib.Core.Bool.{Bool}
 use mathlib.Core.List.{List, [], _∷_, _++_, append-assoc, append-nil}
 use Prim.Native.Nat.{ℕ, zero, suc, _+_, _≤_, _<_}
 use native.Mathlib.Nat.{add-assoc}
@@ -10,23 +11,48 @@ use lib.ListN.{length, getD, length-append}
 use Rattle.model.specs.Words.{word}
 use Rattle.model.specs.Record.{Entry}
 use Rattle.statements.specs.declared.Out.{Out}
-use Rattle.statements.specs.Kept.{room, Counted, Kept, Puts}
+use Rattle.statements.specs.declared.Point.{Point}
+use Rattle.statements.specs.Kept.{begun, at-point, Alike, room, Counted, Kept, Puts}
 
 -- THE LAWS THAT CALLERS CITE
 
--- nothing is recorded yet
-abbrev pub start : Out
-start = record { statements = 0; entries = 0 }
+-- at the beginning the counts are in range
+pub counted-begun : (out : List ℕ) {b : Bool} {p : Point} → Counted out (begun b p)
+counted-begun out = record { statements = omega arith; entries = omega arith }
 
--- its counts are in range
-pub counted-start : (out : List ℕ) → Counted out start
-counted-start out = record { statements = omega arith; entries = omega arith }
-
--- it holds no statement
-pub kept-start : (out : List ℕ) → Kept 0 [] out start
-kept-start out = record {
+-- and no statement is held
+pub kept-begun : (out : List ℕ) {b : Bool} {p : Point} → Kept 0 [] out (begun b p)
+kept-begun out = record {
   fits = λ h. record { statements = refl; entries = refl; ops = λ i l. absurd (omega arith); args = λ i l. absurd (omega arith) };
   over = λ h. absurd (omega arith);
+}
+
+-- another point changes nothing
+pub alike-at : (o : Out) (p : Point) → Alike o (at-point o p)
+alike-at o p = record { statements = refl; entries = refl; recording = refl }
+
+pub alike-same : (o : Out) → Alike o o
+alike-same o = record { statements = refl; entries = refl; recording = refl }
+
+pub alike-then : {o p q : Out} → Alike o p → Alike p q → Alike o q
+alike-then A B = record { statements = B .statements ∙ A .statements; entries = B .entries ∙ A .entries; recording = B .recording ∙ A .recording }
+
+pub counted-alike : {out : List ℕ} {o p : Out} → Alike o p → Counted out o → Counted out p
+counted-alike A C = record { statements = omega (arith, A .statements, A .entries, C .statements); entries = omega (arith, A .entries, C .entries) }
+
+pub kept-alike : {k : ℕ} {es : List Entry} {out : List ℕ} {o p : Out} → Alike o p → Kept k es out o → Kept k es out p
+kept-alike A K = record {
+  fits = λ h. let F = K .fits h in record { statements = A .statements ∙ F .statements; entries = A .entries ∙ F .entries; ops = F .ops; args = F .args };
+  over = λ h. A .entries ∙ K .over h;
+}
+
+-- what is put from o on is put from another that is like it
+pub puts-alike : {n : ℕ} {a b : List ℕ} {o p q : Out} {es : List Entry} → Alike o p → Puts n a p b q es → Puts n a o b q es
+puts-alike A P = record {
+  same = P .same;
+  recording = P .recording ∙ A .recording;
+  counted = P .counted;
+  kept = λ k ds K. P .kept k ds (kept-alike A K);
 }
 
 -- no more statements, and no more entries, is no change
@@ -36,12 +62,13 @@ kept-same {k} {j} {es} {fs} {out} {o} d e K =
 
 -- nothing is put
 pub puts-none : {out : List ℕ} {o : Out} → Counted out o → Puts 0 out o out o []
-puts-none C = record { same = refl; counted = C; kept = λ k es K. kept-same (omega arith) (sym (append-nil es)) K }
+puts-none C = record { same = refl; recording = refl; counted = C; kept = λ k es K. kept-same (omega arith) (sym (append-nil es)) K }
 
 -- two puts: their numbers add, their entries are appended
 pub puts-then : {m n : ℕ} {a b c : List ℕ} {o p q : Out} {es fs : List Entry} → Puts m a o b p es → Puts n b p c q fs → Puts (m + n) a o c q (es ++ fs)
 puts-then {m} {n} {es = es} {fs = fs} P Q = record {
   same = Q .same ∙ P .same;
+  recording = Q .recording ∙ P .recording;
   counted = Q .counted;
   kept = λ k ds K. kept-same (add-assoc k m n) (append-assoc ds es fs) (Q .kept (k + m) (ds ++ es) (P .kept k ds K));
 }

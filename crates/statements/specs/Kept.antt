@@ -7,6 +7,29 @@ use lib.ListN.{length, getD, replicate}
 use Rattle.model.specs.Words.{word}
 use Rattle.model.specs.Record.{Entry, writable, lent}
 use Rattle.statements.specs.declared.Out.{Out}
+use Rattle.statements.specs.declared.Point.{Point}
+
+-- nothing is recorded yet
+abbrev pub begun : Bool → Point → Out
+begun recording p = record { statements = 0; entries = 0; recording = recording; point = p }
+
+-- what follows is recorded at the point p
+abbrev pub at-point : Out → Point → Out
+at-point o p = record { statements = o .statements; entries = o .entries; recording = o .recording; point = p }
+
+-- the same with other counts
+abbrev pub with-counts : Out → ℕ → ℕ → Out
+with-counts o s e = record { statements = s; entries = e; recording = o .recording; point = o .point }
+
+-- o′ is o, but perhaps for its point
+pub record Alike (o o′ : Out) : Type 0 where
+  pub statements : o′ .statements ≡ o .statements
+  pub entries : o′ .entries ≡ o .entries
+  pub recording : o′ .recording ≡ o .recording
+
+-- the entry of its point
+abbrev pub point-of : Out → Entry
+point-of o = (o .point .op, o .point .arg)
 
 -- how many entries a buffer of n words has room for
 unfoldable pub room : ℕ → ℕ
@@ -32,6 +55,7 @@ pub record Kept (k : ℕ) (es : List Entry) (out : List ℕ) (o : Out) : Type 0 
 -- from out and o to out′ and o′: n statements, of these entries, are recorded behind what was
 pub record Puts (n : ℕ) (out : List ℕ) (o : Out) (out′ : List ℕ) (o′ : Out) (new : List Entry) : Type 0 where
   pub same : length out′ ≡ length out
+  pub recording : o′ .recording ≡ o .recording
   pub counted : Counted out′ o′
   pub kept : (k : ℕ) (es : List Entry) → Kept k es out o → Kept (k + n) (es ++ new) out′ o′
 

@@ -6,13 +6,58 @@ ghost use Prim.Native.Nat.{ℕ, _+_, _%_, _≤_};
 ghost use lib.ListN.{length, take, replicate};
 ghost use Rattle.model.specs.State.{pairs};
 ghost use Rattle.model.specs.Record.{Entry};
-ghost use Rattle.statements.specs.Kept.{room, Counted, Puts, Finished};
+ghost use Rattle.statements.specs.Kept.{begun, at-point, with-counts, point-of, room, Counted, Puts, Finished};
 ghost use Rattle.statements.specs.Moved.{closed, cleared};
 
-// What is recorded so far.
+// A point: an item, or the entry.
+pub struct Point {
+    pub op: u32,
+    pub arg: u32,
+}
+
+// What is recorded so far; whether the pass records, and the point of what it records next.
 pub struct Out {
     pub statements: usize,
     pub entries: usize,
+    pub recording: bool,
+    pub point: Point,
+}
+
+// Nothing is recorded yet.
+pub fn begun(recording: bool, p: Point) -> Out
+    ensures { λ r. ⌜ r ≡ begun recording p ⌝ }
+{
+    Out {
+        statements: 0,
+        entries: 0,
+        recording,
+        point: p,
+    }
+}
+
+// What follows is recorded at the point p.
+pub fn at_point(o: Out, p: Point) -> Out
+    ensures { λ r. ⌜ r ≡ at-point o p ⌝ }
+{
+    Out {
+        statements: o.statements,
+        entries: o.entries,
+        recording: o.recording,
+        point: p,
+    }
+}
+
+// The same with other counts.
+fn counts(o: Out, statements: usize, entries: usize) -> Out
+    ensures { λ r. ⌜ r ≡ with-counts o statements entries ⌝ }
+{
+    let p = o.point;
+    Out {
+        statements,
+        entries,
+        recording: o.recording,
+        point: p,
+    }
 }
 
 // How many entries a buffer of n words has room for.
@@ -31,17 +76,11 @@ fn put(out: &mut [u32], o: Out, op: u32, arg: u32) -> Out
     let r = room(n);
     let k = o.entries;
     if r <= k {
-        return Out {
-            statements: o.statements,
-            entries: r + 1,
-        };
+        return counts(o, o.statements, r + 1);
     }
     out[2 + k] = op;
     out[2 + r + k] = arg;
-    Out {
-        statements: o.statements,
-        entries: k + 1,
-    }
+    counts(o, o.statements, k + 1)
 }
 
 // The first n items.
@@ -67,40 +106,22 @@ pub const FOLD: u32 = 15;
 
 pub const UNFOLD: u32 = 16;
 
-// A point: an item, or the entry.
-pub struct Point {
-    pub op: u32,
-    pub arg: u32,
-}
-
 // One statement: its point, its verb, the first n items of its place.
-pub fn record(
-    out: &mut [u32],
-    o: Out,
-    p: Point,
-    verb: u32,
-    ops: &[u32],
-    args: &[u32],
-    n: usize,
-) -> Out
+pub fn record(out: &mut [u32], o: Out, verb: u32, ops: &[u32], args: &[u32], n: usize) -> Out
     requires { ⌜ Counted (now out) o ⌝ }
     requires { ⌜ (n ≤ length (now ops)) × (n ≤ length (now args)) ⌝ }
-    ensures { λ r. ⌜ Puts 1 (now (out .entry)) o (now (out .exit)) r ((p .op, p .arg) ∷ (verb, 0) ∷ pairs (take n (now (ops .entry))) (take n (now (args .entry)))) ⌝ }
+    ensures { λ r. ⌜ Puts 1 (now (out .entry)) o (now (out .exit)) r (point-of o ∷ (verb, 0) ∷ pairs (take n (now (ops .entry))) (take n (now (args .entry)))) ⌝ }
+    ensures at { λ r. ⌜ r .point ≡ o .point ⌝ }
 {
+    let p = o.point;
     let a = put(out, o, p.op, p.arg);
     let b = put(out, a, verb, 0);
     let c = put_items(out, b, ops, args, n);
     let k = out.len();
     if room(k) < c.entries {
-        return Out {
-            statements: o.statements,
-            entries: c.entries,
-        };
+        return counts(o, o.statements, c.entries);
     }
-    Out {
-        statements: o.statements + 1,
-        entries: c.entries,
-    }
+    counts(o, o.statements + 1, c.entries)
 }
 
 // A number as a word.
@@ -111,7 +132,7 @@ pub fn small(n: usize) -> u32
 }
 
 // Zeros from a word on.
-fn clear(out: &mut [u32], from: usize)
+pub fn clear(out: &mut [u32], from: usize)
     requires { ⌜ from ≤ length (now out) ⌝ }
     ensures { λ r. ⌜ now (out .exit) ≡ cleared (now (out .entry)) from ⌝ }
 {

@@ -6,21 +6,15 @@ ghost use lib.ListN.{length, drop};
 ghost use Rattle.model.specs.Words.{word};
 ghost use Rattle.model.specs.Ghosts.{number};
 ghost use Rattle.text.specs.Printing.{Writes, entry-text, point, ends, first-text, Whole, entries-of, Prints, Refuses};
+use mir::items::DEREF;
+use mir::items::DOWNCAST;
+use mir::items::FIELD;
+use mir::items::INDEX;
+use mir::items::ROOT;
 use statements::BEFORE;
 use statements::ENTRY;
 use statements::FOLD;
 use type_record::record::wide;
-
-// The ops of a place's entries: its local, and the elements.
-const LOCAL: u32 = 0;
-
-const DEREF: u32 = 1;
-
-const FIELD: u32 = 2;
-
-const DOWNCAST: u32 = 3;
-
-const INDEX: u32 = 4;
 
 const NEWLINE: u8 = 10;
 
@@ -72,7 +66,7 @@ fn put_entry(text: &mut [u8], at: usize, op: u32, arg: u32) -> usize
     ensures { λ r. ⌜ Writes (now (text .entry)) (now (text .exit)) at r (entry-text (op, arg)) ⌝ }
 {
     match op {
-        LOCAL => put_number(text, at, arg),
+        ROOT => put_number(text, at, arg),
         DEREF => put_all(text, at, b".*"),
         FIELD => put_numbered(text, at, b".", arg),
         DOWNCAST => put_numbered(text, at, b".as", arg),

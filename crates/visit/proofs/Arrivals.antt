@@ -44,14 +44,14 @@ bind-refused (done x) f e = clash (cc)
 module _ {Γ fn : List ℕ} {m : Memory} {kept visited waits forms whats out : List ℕ} {o : Out} {c : ℕ}
     (R : Remembers Γ fn m (arrays kept visited waits forms whats)) (l : c < nblocks fn) (j : is-join-point fn c ≡ true) (few : nblocks fn ≤ 256) where
   -- in the first pass
-  pub first-visits : {fs ws kept′ waits′ : List ℕ} {r : ℕ} {v : Visit} (i : ℕ) (entry : Bool) (E : Forest) → Spoken fn false (m .lines) out o → Fits Γ (local-types fn) E
+  first-visits₀ : {fs ws kept′ waits′ : List ℕ} {r : ℕ} {v : Visit} (i : ℕ) (entry : Bool) (E : Forest) → Spoken fn false (m .lines) out o → Fits Γ (local-types fn) E
       → Arrives Γ (local-types fn) c kept waits (takes Γ (m .kept c) E) fs ws kept′ waits′ r
       → length kept′ ≡ length kept → length waits′ ≡ length waits
       → length fs ≡ length (lent-of forms (share-number fn c)) → length ws ≡ length (lent-of whats (share-number fn c))
       → (r ≡ 0 → v ≡ Over o) → (r ≢ 0 → v ≡ Refused r)
       → Visits Γ fn false (arrays kept visited waits forms whats) out (arrives Γ fn false (exit fn entry i c E) m)
       (arrays kept′ visited waits′ (shelved forms (share-number fn c) fs) (shelved whats (share-number fn c) ws)) out v
-  first-visits {fs} {ws} {kept′} {waits′} {r} {v} i entry E S f A k w p q over stop =
+  first-visits₀ {fs} {ws} {kept′} {waits′} {r} {v} i entry E S f A k w p q over stop =
       let x = exit fn entry i c E in
       let I = share-inside R l j few in
       rw (first-takes Γ fn x m) (record {
@@ -76,11 +76,11 @@ module _ {Γ fn : List ℕ} {m : Memory} {kept visited waits forms whats out : L
       })
 
   -- and in the second
-  pub second-visits : {waits′ out′ : List ℕ} {v : Visit} (i : ℕ) (entry : Bool) (E : Forest) → Spoken fn true (m .lines) out o
+  second-visits₀ : {waits′ out′ : List ℕ} {v : Visit} (i : ℕ) (entry : Bool) (E : Forest) → Spoken fn true (m .lines) out o
       → Reconciles fn (point fn entry i) c visited waits out o (owed Γ (m .kept c) E) waits′ out′ v
       → length waits′ ≡ length waits
       → Visits Γ fn true (arrays kept visited waits forms whats) out (arrives Γ fn true (exit fn entry i c E) m) (arrays kept visited waits′ forms whats) out′ v
-  second-visits {waits′} {out′} {v} i entry E S A w =
+  second-visits₀ {waits′} {out′} {v} i entry E S A w =
       let x = exit fn entry i c E in
       rw (second-owes Γ fn x m) (record {
         alike = record { kept = refl; visited = refl; waits = w; forms = refl; whats = refl };
@@ -90,6 +90,27 @@ module _ {Γ fn : List ℕ} {m : Memory} {kept visited waits forms whats out : L
             let (ts, d, z) = then-done (owed Γ (m .kept c) E) e in
             let y : marked x ts m ≡ m′ = cc in
             let (q, g, P) = A .told ts d in
-            let T : Tells fn true out o out′ q (mark (point fn entry i) ts) = record { told = λ u. rw (length-mark (point fn entry i) ts) P; silent = λ u. clash (cc) } in
+            let T : Tells fn out o out′ q (mark (point fn entry i) ts) = record { told = λ u. rw (length-mark (point fn entry i) ts) P; silent = λ u. clash (cc (S .pen)) } in
             rw (← y) (q, g, marked-remembers R l j few x ts refl (A .waiting ts d), spoken-told S T);
       })
+
+  -- so where the pass does not record
+  pub first-visits : {recording : Bool} {fs ws kept′ waits′ : List ℕ} {r : ℕ} {v : Visit} (i : ℕ) (entry : Bool) (E : Forest) → recording ≡ false
+      → Spoken fn recording (m .lines) out o → Fits Γ (local-types fn) E
+      → Arrives Γ (local-types fn) c kept waits (takes Γ (m .kept c) E) fs ws kept′ waits′ r
+      → length kept′ ≡ length kept → length waits′ ≡ length waits
+      → length fs ≡ length (lent-of forms (share-number fn c)) → length ws ≡ length (lent-of whats (share-number fn c))
+      → (r ≡ 0 → v ≡ Over o) → (r ≢ 0 → v ≡ Refused r)
+      → Visits Γ fn recording (arrays kept visited waits forms whats) out (arrives Γ fn recording (exit fn entry i c E) m)
+      (arrays kept′ visited waits′ (shelved forms (share-number fn c) fs) (shelved whats (share-number fn c) ws)) out v
+  first-visits {recording = false} i entry E e = first-visits₀ i entry E
+  first-visits {recording = true} i entry E e = clash (cc)
+
+  -- and where it does
+  pub second-visits : {recording : Bool} {waits′ out′ : List ℕ} {v : Visit} (i : ℕ) (entry : Bool) (E : Forest) → recording ≡ true
+      → Spoken fn recording (m .lines) out o
+      → Reconciles fn (point fn entry i) c visited waits out o (owed Γ (m .kept c) E) waits′ out′ v
+      → length waits′ ≡ length waits
+      → Visits Γ fn recording (arrays kept visited waits forms whats) out (arrives Γ fn recording (exit fn entry i c E) m) (arrays kept visited waits′ forms whats) out′ v
+  second-visits {recording = true} i entry E e = second-visits₀ i entry E
+  second-visits {recording = false} i entry E e = clash (cc)

@@ -1,5 +1,5 @@
 -- A block that is entered, in the arrays and in the buffer: refused by its items, over at its return, left by its targets.
-use mathlib.Core.Path.{_≡_, refl, sym, _∙_}
+use mathlib.Core.Path.{_≡_, refl, sym, _∙_, subst, subst₂}
 use mathlib.Core.Bool.{Bool, true, false}
 use mathlib.Core.List.{List, _++_, append-nil}
 use mathlib.Core.Logic.{_≢_}
@@ -17,12 +17,13 @@ use Rattle.base.specs.Answer.{split-answer}
 use Rattle.base.specs.Function.{FunctionFacts}
 use Rattle.statements.specs.declared.Out.{Out}
 use Rattle.body.specs.Uses.{uses, Tells, Gone, Passes, After}
+use Rattle.body.proofs.Passing.{tells-same}
 use Rattle.visit.specs.Memory.{Memory, enters, departs}
 use Rattle.visit.specs.Shares.{Arrays, Remembers, Alike}
 use Rattle.visit.specs.Visits.{Spoken, Visits}
 use Rattle.visit.specs.declared.block.Visit.{Visit}
 use Rattle.visit.specs.declared.block.Visit.the-variants.{Over, Refused}
-use Rattle.visit.proofs.Heard.{told-more, telling, tells-same, spoken-told}
+use Rattle.visit.proofs.Heard.{told-more, telling, spoken-told}
 use Rattle.visit.proofs.Steps.{enters-uses, departs-none, ret-some, ret-none}
 
 -- all lengths are as they are
@@ -51,6 +52,21 @@ told-remembers recording ls R = record {
   whats-rest = R .whats-rest;
 }
 
+-- the items were passed
+pub passes-gone : {Γ fn out out′ : List ℕ} {o : Out} {a : Answer (Forest × List (Line At))} {r : After} → Passes Γ fn out o out′ a r → r .refusal ≡ 0
+    → (w : Forest × List (Line At)) × (a ≡ done w) × Gone Γ fn out o out′ w r
+passes-gone {a} P z = split-answer a (λ n e. absurd ((P .denied n e) .1 (sym ((P .denied n e) .0) ∙ z))) (λ w e. (w, e, P .gone w e))
+
+-- the items are those of the block b
+pub passes-block : {Γ fn out out′ : List ℕ} {o : Out} {r : After} (E : Forest) (b : ℕ) {i k : ℕ} → i ≡ start fn b → k ≡ stop fn b
+    → Passes Γ fn out o out′ (uses Γ fn false (k - i) i E) r → Passes Γ fn out o out′ (uses Γ fn false (stop fn b - start fn b) (start fn b) E) r
+passes-block {Γ} {fn} {out} {out′} {o} {r} E b e d P = subst₂ (λ (i k : ℕ). Passes Γ fn out o out′ (uses Γ fn false (k - i) i E) r) e d P
+
+-- a visit in the pass that the record says
+pub visits-pen : {Γ fn : List ℕ} {b recording : Bool} {x x′ : Arrays} {out out′ : List ℕ} {v : Visit} (f : Bool → Answer Memory) → b ≡ recording
+    → Visits Γ fn b x out (f b) x′ out′ v → Visits Γ fn recording x out (f recording) x′ out′ v
+visits-pen {Γ} {fn} {x = x} {x′} {out} {out′} {v} f e N = subst (λ (c : Bool). Visits Γ fn c x out (f c) x′ out′ v) e N
+
 module _ {Γ fn : List ℕ} {recording : Bool} where
   -- a visit that model refuses
   pub visits-refused : {x x′ : Arrays} {out out′ : List ℕ} {a : Answer Memory} {k : ℕ} → a ≡ refused k → Alike x x′ → length out′ ≡ length out
@@ -72,27 +88,22 @@ module _ {Γ fn : List ℕ} {recording : Bool} where
       → Visits Γ fn recording y out₁ a x′ out′ v → Visits Γ fn recording x out a x′ out′ v
   visits-later A s N = record { alike = alike-then A (N .alike); same = N .same ∙ s; denied = N .denied; over = N .over }
 
-  -- the items were passed
-  pub passes-gone : {out out′ : List ℕ} {o : Out} {a : Answer (Forest × List (Line At))} {r : After} → Passes Γ fn recording out o out′ a r → r .refusal ≡ 0
-      → (w : Forest × List (Line At)) × (a ≡ done w) × Gone Γ fn recording out o out′ w r
-  passes-gone {a} P z = split-answer a (λ n e. absurd ((P .denied n e) .1 (sym ((P .denied n e) .0) ∙ z))) (λ w e. (w, e, P .gone w e))
-
   module _ (n : ℕ) {b : ℕ} (l : b < nblocks fn) (E : Forest) (m : Memory) {x : Arrays} {out out′ : List ℕ} where
     -- the items are refused
-    pub enter-refused : {o : Out} {r : After} → Passes Γ fn recording out o out′ (uses Γ fn false (stop fn b - start fn b) (start fn b) E) r → r .refusal ≢ 0
+    pub enter-refused : {o : Out} {r : After} → Passes Γ fn out o out′ (uses Γ fn false (stop fn b - start fn b) (start fn b) E) r → r .refusal ≢ 0
         → Visits Γ fn recording x out (enters Γ fn recording (suc n) b E m) x out′ (Refused (r .refusal))
     enter-refused P d = split-answer (uses Γ fn false (stop fn b - start fn b) (start fn b) E)
         (λ k e. visits-refused (enters-uses Γ fn recording n b E m l ∙ rw (e, ← (P .denied k e) .0) refl) (alike-same x) (P .same))
         (λ w e. absurd (d ((P .gone w e) .fine)))
 
     module _ (A : FunctionFacts fn) {w : Forest × List (Line At)} (u : uses Γ fn false (stop fn b - start fn b) (start fn b) E ≡ done w) {o q : Out}
-        (T : Tells fn recording out o out′ q (w .1)) where
+        (T : Tells fn out o out′ q (w .1)) where
       -- the block returns
       pub enter-over : {out″ : List ℕ} {q′ : Out} {j : ℕ} → j ≡ stop fn b - 1 → returns fn b ≡ true → Remembers Γ fn m x → Spoken fn recording (m .lines) out o
-          → Tells fn recording out′ q out″ q′ (mark j (folds-at-ret Γ (nargs fn) (w .0)))
+          → Tells fn out′ q out″ q′ (mark j (folds-at-ret Γ (nargs fn) (w .0)))
           → Visits Γ fn recording x out (enters Γ fn recording (suc n) b E m) x out″ (Over q′)
       enter-over {out″} {q′} {j} d e R S U₁ =
-          let U : Tells fn recording out′ q out″ q′ (mark (stop fn b - 1) (folds-at-ret Γ (nargs fn) (w .0))) = rw d at U₁ in
+          let U : Tells fn out′ q out″ q′ (mark (stop fn b - 1) (folds-at-ret Γ (nargs fn) (w .0))) = rw d at U₁ in
           let ls = w .1 ++ mark (stop fn b - 1) (folds-at-ret Γ (nargs fn) (w .0)) in
           visits-over
           (enters-uses Γ fn recording n b E m l ∙ rw (u, ret-some Γ fn b (w .0) e) (departs-none A l Γ recording n (w .0) (telling recording ls m) e))

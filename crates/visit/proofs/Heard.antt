@@ -1,5 +1,5 @@
 -- What is recorded stands in the buffer, line behind line, as model hears it.
-use mathlib.Core.Path.{_≡_, refl, sym, ap, _∙_}
+use mathlib.Core.Path.{_≡_, refl, sym, ap, _∙_, subst}
 use mathlib.Core.Bool.{Bool, true, false}
 use mathlib.Core.List.{List, [], _∷_, _++_, append-assoc, append-nil}
 use Prim.Native.Nat.{ℕ}
@@ -13,8 +13,9 @@ use Rattle.model.specs.Record.{Entry, point-entry, entries}
 use Rattle.model.specs.Body.{frame}
 use Rattle.solver.specs.Direct as Direct
 use Rattle.records.specs.Recorded.{entries-append, length-mark}
-use Rattle.base.specs.Tests.{split, clash}
+use Rattle.base.specs.Tests.{clash}
 use Rattle.statements.specs.Kept.{Puts}
+use Rattle.statements.proofs.Puts.{counted-alike}
 use Rattle.statements.specs.declared.Out.{Out}
 use Rattle.body.specs.Uses.{point, Tells}
 use Rattle.collectors.specs.Trail.{lines-of, root}
@@ -49,24 +50,28 @@ hears-told Γ fn false (l ∷ ls) m = hears-told Γ fn false ls m
 hears-told Γ fn true [] m = ap (with-lines m) (sym (append-nil (m .lines)))
 hears-told Γ fn true (l ∷ ls) m = hears-told Γ fn true ls (hears Γ fn true l m) ∙ ap (with-lines m) (append-snoc (m .lines) l ls)
 
--- what a pass tells leaves the buffer as long as it was
-pub tells-same : {fn : List ℕ} {recording : Bool} {out out′ : List ℕ} {o q : Out} {ls : List (Line At)} → Tells fn recording out o out′ q ls
-    → length out′ ≡ length out
-tells-same {recording} T = split recording (λ e. (T .told e) .same) (λ e. ap length ((T .silent e) .0))
-
 -- and behind what was spoken
 pub spoken-told : {fn : List ℕ} {recording : Bool} {ls ms : List (Line At)} {out out′ : List ℕ} {o q : Out} → Spoken fn recording ls out o
-    → Tells fn recording out o out′ q ms → Spoken fn recording (told recording ls ms) out′ q
-spoken-told {recording = false} {ls} S T = let (e, d) = T .silent refl in rw (e, d) S
-spoken-told {fn} {recording = true} {ls} {ms} S T = record {
-  counted = (T .told refl) .counted;
-  kept = λ e. rw (length-append ls ms, entries-append (entry-point fn) ls ms) ((T .told refl) .kept (length ls) (entries (entry-point fn) ls) (S .kept refl));
-}
+    → Tells fn out o out′ q ms → Spoken fn recording (told recording ls ms) out′ q
+spoken-told {recording = false} {ls} S T =
+    let (e, A) = T .silent (S .pen) in
+    rw e (record { pen = A .recording ∙ S .pen; counted = counted-alike A (S .counted); kept = λ d. clash (cc) })
+spoken-told {fn} {recording = true} {ls} {ms} S T =
+    let P = T .told (S .pen) in
+    record {
+      pen = P .recording ∙ S .pen;
+      counted = P .counted;
+      kept = λ e. rw (length-append ls ms, entries-append (entry-point fn) ls ms) (P .kept (length ls) (entries (entry-point fn) ls) (S .kept refl));
+    }
+
+-- the pass is the one that the record says
+pub spoken-own : {fn : List ℕ} {recording : Bool} {ls : List (Line At)} {out : List ℕ} {o : Out} → Spoken fn recording ls out o → Spoken fn (o .recording) ls out o
+spoken-own {fn} {ls = ls} {out} {o} S = subst (λ (b : Bool). Spoken fn b ls out o) (sym (S .pen)) S
 
 -- statements that are put at the item i are told there
-pub puts-tells : {fn : List ℕ} {recording : Bool} {out out′ : List ℕ} {o q : Out} (i : ℕ) (ts : List At) {e : Entry} → recording ≡ true
+pub puts-tells : {fn : List ℕ} {out out′ : List ℕ} {o q : Out} (i : ℕ) (ts : List At) {e : Entry} → o .recording ≡ true
     → e ≡ point-entry (entry-point fn) (point fn false i) → Puts (length ts) out o out′ q (lines-of e (root 0) ts)
-    → Tells fn recording out o out′ q (mark i ts)
+    → Tells fn out o out′ q (mark i ts)
 unfolding point
 puts-tells {fn} i ts t d P = record {
   told = λ u. rw (length-mark i ts, ← lines-at (entry-point fn) i d ts) P;

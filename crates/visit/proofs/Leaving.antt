@@ -1,5 +1,5 @@
 -- A block that is left by its targets, one item after the other: what is left of the way at item i, and what an item does to it.
-use mathlib.Core.Path.{_≡_, refl, ap, _∙_}
+use mathlib.Core.Path.{_≡_, refl, ap, _∙_, subst}
 use mathlib.Core.Bool.{Bool, false}
 use mathlib.Core.List.{List, [], _∷_, map}
 use mathlib.Core.Logic.{_≢_}
@@ -32,9 +32,9 @@ use Rattle.body.specs.declared.arms.Plan.the-variants.{Refused}
 use Rattle.visit.specs.Memory.{Memory, hears, arrives, enters, jumps, departs}
 use Rattle.visit.specs.Shares.{Arrays, Remembers, Alike}
 use Rattle.visit.specs.Visits.{Spoken, exit, Visits}
-use Rattle.visit.specs.declared.block.Visit as Visit
-use Rattle.visit.specs.declared.block.Visit.the-variants.{Over}
-use Rattle.visit.proofs.Entering.{alike-same, alike-then, visits-refused, visits-over}
+use Rattle.visit.specs.declared.block.Visit.{Visit}
+use Rattle.visit.specs.declared.block.Visit.the-variants.{Over, Refused as Stopped}
+use Rattle.visit.proofs.Entering.{alike-same, alike-then, visits-pen, visits-refused, visits-over}
 
 -- is the item i a target?
 abbrev is-target : List ℕ → ℕ → Bool
@@ -87,6 +87,15 @@ module _ (Γ fn : List ℕ) (recording : Bool) (n b : ℕ) where
       pub listed : map target rest ≡ aims fn (stop fn b - (i + 1)) (i + 1)
       pub chosen : Chosen Γ fn p E rest
       pub leaves : departs Γ fn recording n b E m ≡ jumps Γ fn recording n (exit fn false i (arg fn i) state) M >>= λ t. leaving rest t
+
+-- a jump of the pass that the record says, to the block that the item names
+jumped : {Γ fn : List ℕ} {b recording : Bool} {x x′ : Arrays} {out out′ : List ℕ} {c d : ℕ} {u v : Visit} (n i : ℕ) (D : Forest) (M : Memory)
+    → b ≡ recording → c ≡ d → u ≡ v → Visits Γ fn b x out (jumps Γ fn b n (exit fn false i c D) M) x′ out′ u
+    → Visits Γ fn recording x out (jumps Γ fn recording n (exit fn false i d D) M) x′ out′ v
+jumped {Γ} {fn} {b} {recording} {x} {x′} {out} {out′} {c} {d} {u} {v} n i D M e z w N =
+    subst (λ (t : Visit). Visits Γ fn recording x out (jumps Γ fn recording n (exit fn false i d D) M) x′ out′ t) w
+    (subst (λ (k : ℕ). Visits Γ fn recording x out (jumps Γ fn recording n (exit fn false i k D) M) x′ out′ u) z
+    (visits-pen (λ r. jumps Γ fn r n (exit fn false i c D) M) e N))
 
 module _ {Γ fn : List ℕ} {recording : Bool} {n b : ℕ} {p : Plan} {E : Forest} {m : Memory} where
   -- at the block's first item
@@ -156,10 +165,12 @@ module _ {Γ fn : List ℕ} {recording : Bool} {n b : ℕ} {p : Plan} {E : Fores
         (L .ahead .listed ∙ rw (z, collect-pass (is-target fn) (aim fn) (stop fn b - (i + 1)) i (eq-eqb (op fn i) 10 d), ← y) refl)
 
     -- it came through
-    pub left-over : {x″ : Arrays} {out″ : List ℕ} {w : Out} (N : Aimed Γ fn recording n b p E m i (L .memory))
-        → Visits Γ fn recording x′ out′ (jumps Γ fn recording n (exit fn false i (arg fn i) (N .state)) (L .memory)) x″ out″ (Over w)
+    pub left-over : {x″ : Arrays} {out″ : List ℕ} {w : Out} {c : ℕ} {v : Visit} (N : Aimed Γ fn recording n b p E m i (L .memory)) → c ≡ arg fn i → v ≡ Over w
+        → Visits Γ fn (q .recording) x′ out′ (jumps Γ fn (q .recording) n (exit fn false i c (N .state)) (L .memory)) x″ out″ v
         → Left Γ fn recording n b p E m x out (i + 1) x″ out″ w
-    left-over {w} N J = split-answer (jumps Γ fn recording n (exit fn false i (arg fn i) (N .state)) (L .memory))
+    left-over {w = w} N z y J₀ =
+        let J = jumped n i (N .state) (L .memory) (L .spoken .pen) z y J₀ in
+        split-answer (jumps Γ fn recording n (exit fn false i (arg fn i) (N .state)) (L .memory))
         (λ k e. clash (cc (J .denied k e)))
         (λ M e.
         let (o, r, R, S) = J .over M e in
@@ -175,10 +186,12 @@ module _ {Γ fn : List ℕ} {recording : Bool} {n b : ℕ} {p : Plan} {E : Fores
         })
 
     -- or is refused
-    pub left-refused : {x″ : Arrays} {out″ : List ℕ} {k : ℕ} (N : Aimed Γ fn recording n b p E m i (L .memory))
-        → Visits Γ fn recording x′ out′ (jumps Γ fn recording n (exit fn false i (arg fn i) (N .state)) (L .memory)) x″ out″ (Visit.the-variants.Refused k)
-        → Visits Γ fn recording x out (departs Γ fn recording n b E m) x″ out″ (Visit.the-variants.Refused k)
-    left-refused {k} N J = split-answer (jumps Γ fn recording n (exit fn false i (arg fn i) (N .state)) (L .memory))
+    pub left-refused : {x″ : Arrays} {out″ : List ℕ} {k c : ℕ} {v : Visit} (N : Aimed Γ fn recording n b p E m i (L .memory)) → c ≡ arg fn i → v ≡ Stopped k
+        → Visits Γ fn (q .recording) x′ out′ (jumps Γ fn (q .recording) n (exit fn false i c (N .state)) (L .memory)) x″ out″ v
+        → Visits Γ fn recording x out (departs Γ fn recording n b E m) x″ out″ (Stopped k)
+    left-refused {k = k} N z y J₀ =
+        let J = jumped n i (N .state) (L .memory) (L .spoken .pen) z y J₀ in
+        split-answer (jumps Γ fn recording n (exit fn false i (arg fn i) (N .state)) (L .memory))
         (λ j e.
         let z : k ≡ j = cc (J .denied j e) in
         visits-refused (N .leaves ∙ rw (e, z) refl) (alike-then (L .alike) (J .alike)) (J .same ∙ L .same))

@@ -1,4 +1,6 @@
 -- What the proofs of several functions use.
+-- what is kept for each block
+pub mod Memo
 -- a share as a state
 pub mod Stored
 -- an arrival in the first pass
@@ -15,6 +17,8 @@ pub mod Stores
 pub mod Heard
 -- an arrival as a visit
 pub mod Arrivals
+-- the way of blocks entered at once
+pub mod Ways
 -- model's steps
 pub mod Steps
 -- a block that is entered

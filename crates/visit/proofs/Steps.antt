@@ -9,7 +9,7 @@ use native.Mathlib.Omega.{arith}
 use native.Mathlib.Decide.{decLt}
 use lib.Dec.{eqb}
 use borrow.Author.Tests.{lt-ltb, eqb-true, eq-eqb, ne-eqb}
-use Rattle.model.specs.Answer.{refused, done, _>>=_}
+use Rattle.model.specs.Answer.{done, _>>=_}
 use Rattle.model.specs.Tree.{Forest}
 use Rattle.model.specs.Collect.{folds-at-ret}
 use Rattle.model.specs.Function.{nargs, nblocks, start, stop, op}
@@ -44,11 +44,6 @@ module _ (Γ fn : List ℕ) (recording : Bool) (n : ℕ) where
       → jumps Γ fn recording n x m ≡ enters Γ fn recording n (x .block) (x .state) m
   unfolding do-goto frame
   jumps-enter x m e = rw (e, do-goto) refl
-
-  -- where no block more may be entered
-  pub enters-none : (b : ℕ) (E : Forest) (m : Memory) → enters Γ fn recording 0 b E m ≡ refused 0
-  unfolding do-enter
-  enters-none b E m = refl
 
   -- A BLOCK
 
@@ -99,7 +94,7 @@ module _ {fn : List ℕ} (A : FunctionFacts fn) {b : ℕ} (l : b < nblocks fn) w
     where
       behind : (p : Plan) → 0 < i → Behind p i
       behind Plain u = tt
-      behind (Match read t left other) u = u
+      behind (Match m w) u = u
       behind (Refused k) u = tt
 
 -- A BLOCK THAT IS LEFT

@@ -57,7 +57,7 @@ marks-written true l f c n i h x k = elim (ℕ-discrete x c) [
 marks-written false l f c n i h x k = h x k
 
 -- a choice the other way round
-unless : {A : Type 0} (b : Bool) (x y : A) → cond (not b) x y ≡ cond b y x
+pub unless : {A : Type 0} (b : Bool) (x y : A) → cond (not b) x y ≡ cond b y x
 unless true x y = refl
 unless false x y = refl
 

@@ -1,6 +1,6 @@
 -- An arrival in the second pass: what `reconcile` leaves, by what is collected. Assumes nothing.
-use mathlib.Core.Path.{_≡_, refl}
-use mathlib.Core.Bool.{cond}
+use mathlib.Core.Path.{_≡_, refl, ap, _∙_}
+use mathlib.Core.Bool.{Bool, not, cond}
 use mathlib.Core.List.{List}
 use mathlib.Core.Option.{none}
 use Prim.Native.Nat.{ℕ}
@@ -11,15 +11,19 @@ use Rattle.model.specs.Answer.{Answer}
 use Rattle.model.specs.Tree.{Forest}
 use Rattle.model.specs.Place.{At}
 use Rattle.model.specs.Block.{entry-point}
-use Rattle.model.specs.Record.{Entry, point-entry}
+use Rattle.model.specs.Record.{point-entry}
 use Rattle.base.specs.Tests.{clash}
+use Rattle.statements.specs.Kept.{at-point}
 use Rattle.statements.specs.declared.Out.{Out}
+use Rattle.statements.specs.declared.Point.{Point}
+use Rattle.statements.proofs.Puts.{alike-at, puts-alike}
 use Rattle.collect.specs.declared.states.Collected.{Collected}
 use Rattle.collect.specs.declared.states.Collected.the-variants as collected
 use Rattle.collect.specs.Answers.{Collects}
 use Rattle.visit.specs.declared.block.Visit.the-variants.{Over, Refused}
 use Rattle.visit.specs.Visits.{owed, Reconciles}
 use Rattle.visit.proofs.Lines.{lines-at}
+use Rattle.visit.proofs.Stores.{unless}
 
 -- where nothing is stored
 pub reconciles-none : (Γ : List ℕ) (E : Forest) {fn : List ℕ} {p c : ℕ} {visited waits out : List ℕ} {o : Out}
@@ -27,9 +31,9 @@ pub reconciles-none : (Γ : List ℕ) (E : Forest) {fn : List ℕ} {p c : ℕ} {
 unfolding owed
 reconciles-none Γ E = record { same = refl; denied = λ n d. cc; told = λ ts d. clash (cc); waiting = λ ts d. clash (cc) }
 
--- by what is collected at the point p, whose entry is x
-module _ {fn : List ℕ} {p : ℕ} {x : Entry} (here : x ≡ point-entry (entry-point fn) p) {out out′ : List ℕ} {o : Out} {a : Answer (List At)} {r : Collected}
-    (long : length out′ ≡ length out) (k : Collects x out o out′ a r) {c : ℕ} {visited waits waits′ : List ℕ} where
+-- by what is collected at the point p, which is x
+module _ {fn : List ℕ} {p : ℕ} {out out′ : List ℕ} {o : Out} {x : Point} (here : (x .op, x .arg) ≡ point-entry (entry-point fn) p) {a : Answer (List At)} {r : Collected}
+    (long : length out′ ≡ length out) (k : Collects out (at-point o x) out′ a r) {c : ℕ} {visited waits waits′ : List ℕ} where
   -- a refusal
   pub reconciles-refused : {n : ℕ} → r ≡ collected.Refused n → Reconciles fn p c visited waits out o a waits′ out′ (Refused n)
   reconciles-refused {n} e =
@@ -37,13 +41,13 @@ module _ {fn : List ℕ} {p : ℕ} {x : Entry} (here : x ≡ point-entry (entry-
       record { same = long; denied = λ m d. cc; told = λ ts d. clash (cc); waiting = λ ts d. clash (cc) }
 
   -- lines recorded
-  pub reconciles-over : {q : Out} → r ≡ collected.Done q → waits′ ≡ cond (eqb (word visited c) 0) (set waits c 1) waits
+  pub reconciles-over : {q : Out} {v : Bool} → r ≡ collected.Done q → v ≡ not (eqb (word visited c) 0) → waits′ ≡ cond v waits (set waits c 1)
       → Reconciles fn p c visited waits out o a waits′ out′ (Over q)
-  reconciles-over {q} e w =
+  reconciles-over {q} {v} e d w =
       let (b, y, put) = k .recorded q e in
       record {
         same = long;
         denied = λ m d. clash (cc);
-        told = λ ts d. let same : b ≡ ts = cc in (q, refl, rw (same, lines-at (entry-point fn) p here ts) at put);
-        waiting = λ ts d. w;
+        told = λ ts d. let same : b ≡ ts = cc in (q, refl, puts-alike (alike-at o x) (rw (same, lines-at (entry-point fn) p here ts) at put));
+        waiting = λ ts z. w ∙ ap (λ (b : Bool). cond b waits (set waits c 1)) d ∙ unless (eqb (word visited c) 0) waits (set waits c 1);
       }

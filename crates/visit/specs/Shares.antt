@@ -1,12 +1,13 @@
--- The memory of a run in the code's arrays: a share of 512 entries in each store array for each join point, in block order; the node
--- count plus 1 of what is stored there, or 0; which blocks wait, and which were visited.
+-- The memory of a run in the code's arrays: a share of 512 entries in each store array for each join point, in block order; for each
+-- block the node count plus 1 of what is stored there, or 0, and whether it was visited; which blocks wait.
 use mathlib.Core.Path.{_≡_}
 use mathlib.Core.Bool.{true, false, not}
 use mathlib.Core.List.{List}
 use mathlib.Core.Option.{Option, none, some}
 use Prim.Native.Nat.{ℕ, suc, _*_, _-_, _≤_, _<_}
-use lib.ListN.{length, take, drop, replicate}
+use lib.ListN.{length, take, drop, set, replicate}
 use lib.Dec.{eqb}
+use Rattle.moments.specs.Lent.{Lent, was, after}
 use Rattle.model.specs.Words.{word}
 use Rattle.model.specs.Tree.{Forest, sizes}
 use Rattle.model.specs.State.{most, encode}
@@ -36,6 +37,34 @@ abbrev pub Saved : (Γ locals fs ws : List ℕ) (k : ℕ) → Option Forest → 
 Saved Γ locals fs ws k none = Bare fs ws k
 Saved Γ locals fs ws k (some E) = Full Γ locals fs ws k E
 
+-- WHAT IS KEPT FOR EACH BLOCK, in one array of the run
+
+-- the counts of what is stored
+abbrev pub kept-in : List ℕ → List ℕ
+kept-in memo = take 256 memo
+
+-- which blocks were visited in this pass
+abbrev pub visited-in : List ℕ → List ℕ
+visited-in memo = take 256 (drop 256 memo)
+
+-- the count k is stored for the block b
+pub record Stores (memo : List ℕ) (b k : ℕ) (memo′ : List ℕ) : Type 0 where
+  pub same : length memo′ ≡ length memo
+  pub kept : kept-in memo′ ≡ set (kept-in memo) b k
+  pub visited : visited-in memo′ ≡ visited-in memo
+
+-- the block b is visited
+pub record Visited (memo : List ℕ) (b : ℕ) (memo′ : List ℕ) : Type 0 where
+  pub same : length memo′ ≡ length memo
+  pub kept : kept-in memo′ ≡ kept-in memo
+  pub visited : visited-in memo′ ≡ set (visited-in memo) b 1
+
+-- none is
+pub record Unvisited (memo memo′ : List ℕ) : Type 0 where
+  pub same : length memo′ ≡ length memo
+  pub kept : kept-in memo′ ≡ kept-in memo
+  pub visited : visited-in memo′ ≡ replicate 256 0
+
 -- ALL ARRAYS
 
 -- the numbers of the shares, of all blocks
@@ -52,6 +81,21 @@ pub record Arrays : Type 0 where
 
 abbrev pub arrays : List ℕ → List ℕ → List ℕ → List ℕ → List ℕ → Arrays
 arrays k v w fs ws = record { kept = k; visited = v; waits = w; forms = fs; whats = ws }
+
+-- with what is kept for each block in one
+abbrev pub arrays-in : List ℕ → List ℕ → List ℕ → List ℕ → Arrays
+arrays-in memo w fs ws = arrays (kept-in memo) (visited-in memo) w fs ws
+
+-- the arrays as they were lent, and as they are given back
+pub record Change : Type 0 where
+  pub before : Arrays
+  pub behind : Arrays
+
+abbrev pub change : Lent → Lent → Lent → Lent → Change
+change memo w fs ws = record {
+  before = arrays-in (was memo) (was w) (was fs) (was ws);
+  behind = arrays-in (after memo) (after w) (after fs) (after ws);
+}
 
 -- as long as they have to be
 pub record Long (fn : List ℕ) (a : Arrays) : Type 0 where

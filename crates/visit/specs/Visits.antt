@@ -3,23 +3,30 @@ use mathlib.Core.Path.{_≡_}
 use mathlib.Core.Bool.{Bool, true, false, cond}
 use mathlib.Core.List.{List}
 use mathlib.Core.Option.{Option, none, some}
-use Prim.Native.Nat.{ℕ, suc}
+use Prim.Native.Nat.{ℕ, suc, _≤_, _<_}
 use lib.ListN.{length, set}
 use lib.Dec.{eqb, leb}
+use Rattle.moments.specs.Lent.{Lent, was, after}
 use Rattle.model.specs.Words.{word}
 use Rattle.model.specs.Answer.{Answer, refused, done, require}
 use Rattle.model.specs.Tree.{Forest, sizes, joins, flagss}
 use Rattle.model.specs.State.{most}
 use Rattle.model.specs.Place.{At}
-use Rattle.model.specs.Collect.{collects}
+use Rattle.model.specs.Collect.{collects, folds-at-ret}
+use Rattle.model.specs.Function.{nargs, nblocks, local-types}
 use Rattle.model.specs.Block.{entry-point}
 use Rattle.model.specs.Frame.{Line, Exit, mark}
 use Rattle.model.specs.Record.{entries}
+use Rattle.records.specs.Here.{Holds}
+use Rattle.state.specs.Value.{value}
+use Rattle.state.specs.declared.nodes.State.{State}
 use Rattle.statements.specs.Kept.{Counted, Kept, Puts}
 use Rattle.statements.specs.declared.Out.{Out}
-use Rattle.body.specs.Uses.{point}
-use Rattle.visit.specs.Memory.{Memory}
-use Rattle.visit.specs.Shares.{Full, Arrays, Remembers, Alike}
+use Rattle.body.specs.Uses.{point, Tells}
+use Rattle.visit.specs.Memory.{Memory, arrives, enters, jumps, departs}
+use Rattle.visit.specs.Shares.{Full, Saved, kept-in, visited-in, Arrays, Change, Remembers, Alike}
+use Rattle.visit.specs.declared.block.Jump.{Jump}
+use Rattle.visit.specs.declared.block.Way.{Way}
 use Rattle.visit.specs.declared.block.Visit.{Visit}
 use Rattle.visit.specs.declared.block.Visit.the-variants.{Over, Refused}
 
@@ -32,14 +39,15 @@ pub record Tests (r : Bool) (P : Type 0) : Type 0 where
 
 -- the lines so far stand in the buffer, if the pass records
 pub record Spoken (fn : List ℕ) (recording : Bool) (ls : List (Line At)) (out : List ℕ) (o : Out) : Type 0 where
+  pub pen : o .recording ≡ recording
   pub counted : Counted out o
   pub kept : recording ≡ true → Kept (length ls) (entries (entry-point fn) ls) out o
 
 -- some memory is as the arrays and the buffer say
-pub record Ongoing (Γ fn : List ℕ) (recording : Bool) (a : Arrays) (out : List ℕ) (o : Out) : Type 0 where
+pub record Ongoing (Γ fn : List ℕ) (a : Arrays) (out : List ℕ) (o : Out) : Type 0 where
   pub memory : Memory
   pub is : Remembers Γ fn memory a
-  pub spoken : Spoken fn recording (memory .lines) out o
+  pub spoken : Spoken fn (o .recording) (memory .lines) out o
 
 -- AN ARRIVAL IN THE FIRST PASS
 
@@ -59,6 +67,30 @@ pub record Arrives (Γ locals : List ℕ) (c : ℕ) (kept waits : List ℕ) (a :
   pub denied : (n : ℕ) → a ≡ refused n → r ≡ n
   pub took : (w : Forest × Bool) → a ≡ done w → (r ≡ 0) × Took Γ locals c kept waits w fs ws kept′ waits′
 
+-- the lengths are as they were, and which blocks were visited
+pub record Same (m m′ w w′ f f′ g g′ : List ℕ) : Type 0 where
+  pub memo : length m′ ≡ length m
+  pub visited : visited-in m′ ≡ visited-in m
+  pub waits : length w′ ≡ length w
+  pub forms : length f′ ≡ length f
+  pub whats : length g′ ≡ length g
+
+abbrev pub Steady : (memo waits fs ws : Lent) → Type 0
+Steady memo waits fs ws = Same (was memo) (after memo) (was waits) (after waits) (was fs) (after fs) (was ws) (after ws)
+
+-- what `takes` gives of whatever is stored in the share and whatever state s is
+abbrev pub Arriving : (Γ fn : List ℕ) (c : ℕ) → State → (memo waits fs ws : Lent) → ℕ → Type 0
+Arriving Γ fn c s memo waits fs ws r = (k : Option Forest) (E : Forest)
+    → Saved Γ (local-types fn) (was fs) (was ws) (word (kept-in (was memo)) c) k → Holds Γ (local-types fn) (value s) E
+    → Arrives Γ (local-types fn) c (kept-in (was memo)) (was waits) (takes Γ k E) (after fs) (after ws) (kept-in (after memo)) (after waits) r
+
+-- something is stored in the share of the block c, or nothing
+pub record Shelved (Γ fn memo fs ws : List ℕ) (c : ℕ) : Type 0 where
+  pub stored : Option Forest
+  pub is : Saved Γ (local-types fn) fs ws (word (kept-in memo) c) stored
+  pub block : c < 256
+  pub long : 512 ≤ length memo
+
 -- AN ARRIVAL IN THE SECOND PASS
 
 -- the statements from E to what is stored
@@ -73,7 +105,24 @@ pub record Reconciles (fn : List ℕ) (p c : ℕ) (visited waits : List ℕ) (ou
       → (q : Out) × (r ≡ Over q) × Puts (length ts) out o out′ q (entries (entry-point fn) (mark p ts))
   pub waiting : (ts : List At) → a ≡ done ts → waits′ ≡ cond (eqb (word visited c) 0) (set waits c 1) waits
 
+-- what `owed` gives, of whatever is stored in the share and whatever state s is
+abbrev pub Reconciling : (Γ fn : List ℕ) (j : Jump) → State → (memo fs ws : List ℕ) (waits out : Lent) → Out → Visit → Type 0
+Reconciling Γ fn j s memo fs ws waits out o r = (k : Option Forest) (E : Forest)
+    → Saved Γ (local-types fn) fs ws (word (kept-in memo) (j .block)) k → Holds Γ (local-types fn) (value s) E
+    → Reconciles fn (point fn (j .entry) (j .item)) (j .block) (visited-in memo) (was waits) (was out) o (owed Γ k E) (after waits) (after out) r
+
+-- A RETURN
+
+-- what a return at the item i owes of whatever state s is, is recorded if the pass records
+abbrev pub Returns : (Γ fn : List ℕ) → ℕ → State → List ℕ → Out → List ℕ → Out → Type 0
+Returns Γ fn i s out o out′ r = (E : Forest) → Holds Γ (local-types fn) (value s) E
+    → Tells fn out o out′ r (mark i (folds-at-ret Γ (nargs fn) E))
+
 -- A VISIT
+
+-- the jump from the entry
+abbrev pub start-jump : List ℕ → Jump
+start-jump fn = record { item = 0; entry = true; block = 0; left = nblocks fn }
 
 -- the jump to the block c by the item i, or from the entry
 abbrev pub exit : List ℕ → Bool → ℕ → ℕ → Forest → Exit Forest
@@ -85,3 +134,26 @@ pub record Visits (Γ fn : List ℕ) (recording : Bool) (x : Arrays) (out : List
   pub same : length out′ ≡ length out
   pub denied : (n : ℕ) → a ≡ refused n → r ≡ Refused n
   pub over : (m : Memory) → a ≡ done m → (o : Out) × (r ≡ Over o) × Remembers Γ fn m x′ × Spoken fn recording (m .lines) out′ o
+
+module _ (Γ fn : List ℕ) (x : Change) (out : Lent) where
+  -- it is so from whatever memory and state the arrays, the buffer and s have
+  abbrev pub Visiting : State → Out → (Bool → Forest → Memory → Answer Memory) → Visit → Type 0
+  Visiting s o answer r = (m : Memory) (E : Forest) → Remembers Γ fn m (x .before) → Spoken fn (o .recording) (m .lines) (was out) o
+      → Holds Γ (local-types fn) (value s) E
+      → Visits Γ fn (o .recording) (x .before) (was out) (answer (o .recording) E m) (x .behind) (after out) r
+
+  -- a state arrives by the jump j
+  abbrev pub Meets : Jump → State → Out → Visit → Type 0
+  Meets j s o r = Visiting s o (λ b E m. arrives Γ fn b (exit fn (j .entry) (j .item) (j .block) E) m) r
+
+  -- the jump j is taken
+  abbrev pub Jumps : Jump → State → Out → Visit → Type 0
+  Jumps j s o r = Visiting s o (λ b E m. jumps Γ fn b (j .left) (exit fn (j .entry) (j .item) (j .block) E) m) r
+
+  -- a block is entered
+  abbrev pub Enters : Way → State → Out → Visit → Type 0
+  Enters w s o r = Visiting s o (λ b E m. enters Γ fn b (suc (w .left)) (w .block) E m) r
+
+  -- it is left by its targets, in the state s that its items leave
+  abbrev pub Departs : Way → State → Out → Visit → Type 0
+  Departs w s o r = Visiting s o (λ b E m. departs Γ fn b (w .left) (w .block) E m) r

@@ -1,19 +1,17 @@
 // Arrivals at a join point, whose share of the store is lent: `goto_join_point` of both passes.
 ghost use mathlib.Core.Path.{_≡_};
-ghost use mathlib.Core.Option.{Option};
 ghost use Prim.Native.Nat.{suc, _<_};
 ghost use lib.ListN.{length};
-ghost use Rattle.model.specs.Words.{word};
-ghost use Rattle.model.specs.Tree.{Forest};
+ghost use Rattle.moments.specs.Lent.{was, after};
 ghost use Rattle.model.specs.Function.{nitems, local-types};
-ghost use Rattle.records.specs.Here.{Holds};
-ghost use Rattle.state.specs.Value.{value};
 ghost use Rattle.statements.specs.Kept.{Counted};
 ghost use Rattle.body.specs.Given.{Accepted, Stated};
-ghost use Rattle.body.specs.Uses.{point};
-ghost use Rattle.visit.specs.Shares.{Saved};
-ghost use Rattle.visit.specs.Visits.{Tests, takes, owed, Arrives, Reconciles};
+ghost use Rattle.visit.specs.Visits.{Tests, Shelved, Arriving, Steady, Reconciling};
+use crate::block::Jump;
 use crate::block::Visit;
+use crate::memory::set_stored;
+use crate::memory::stored;
+use crate::memory::visited;
 use body::items::point_of;
 use collect::states::Collected;
 use collect::states::collect_fold_unfolds;
@@ -25,13 +23,14 @@ use state::nodes::State;
 use state::share::load_state;
 use state::share::save_state;
 use statements::Out;
+use statements::at_point;
 use statements::small;
 use type_record::record::wide;
 
 // Are these words the same?
 fn same_words(a: &[u16], b: &[u16]) -> bool
     requires { ⌜ length (now a) ≡ length (now b) ⌝ }
-    ensures { λ r. ⌜ Tests r (now (a .entry) ≡ now (b .entry)) ⌝ }
+    ensures { λ r. ⌜ Tests r (was a ≡ was b) ⌝ }
 {
     let n = a.len();
     let mut i = 0;
@@ -47,7 +46,7 @@ fn same_words(a: &[u16], b: &[u16]) -> bool
 // Is the state the one that stands in this share, whose count is k?
 fn stands(k: u32, s: State, forms: &[u16], whats: &[u16]) -> bool
     requires { ⌜ (length (now forms) ≡ 512) × (length (now whats) ≡ 512) ⌝ }
-    ensures { λ r. ⌜ Tests r ((k ≡ suc (s .nodes)) × (now (forms .entry) ≡ s .forms) × (now (whats .entry) ≡ s .whats)) ⌝ }
+    ensures { λ r. ⌜ Tests r ((k ≡ suc (s .nodes)) × (was forms ≡ s .forms) × (was whats ≡ s .whats)) ⌝ }
 {
     if k == 0 {
         return false;
@@ -66,7 +65,7 @@ fn merge(
     types: &[u32],
     offs: &[u32],
     fun: &[u32],
-    kept: &mut [u32],
+    memo: &mut [u32],
     waits: &mut [u32],
     c: usize,
     s: State,
@@ -75,15 +74,15 @@ fn merge(
 ) -> u32
     requires { ⌜ Accepted (now types) (now offs) (now fun) ⌝ }
     requires { ⌜ Stated (now types) (local-types (now fun)) s ⌝ }
-    requires { ⌜ (c < length (now kept)) × (c < length (now waits)) ⌝ }
-    requires { ⌜ ((k : Option Forest) × Saved (now types) (local-types (now fun)) (now forms) (now whats) (word (now kept) c) k) ⌝ }
-    ensures { λ r. ⌜ ((k : Option Forest) (E : Forest) → Saved (now (types .entry)) (local-types (now (fun .entry))) (now (forms .entry)) (now (whats .entry)) (word (now (kept .entry)) c) k → Holds (now (types .entry)) (local-types (now (fun .entry))) (value s) E → Arrives (now (types .entry)) (local-types (now (fun .entry))) c (now (kept .entry)) (now (waits .entry)) (takes (now (types .entry)) k E) (now (forms .exit)) (now (whats .exit)) (now (kept .exit)) (now (waits .exit)) r) ⌝ }
-    ensures lengths { λ r. ⌜ (length (now (kept .exit)) ≡ length (now (kept .entry))) × (length (now (waits .exit)) ≡ length (now (waits .entry))) × (length (now (forms .exit)) ≡ length (now (forms .entry))) × (length (now (whats .exit)) ≡ length (now (whats .entry))) ⌝ }
+    requires { ⌜ Shelved (now types) (now fun) (now memo) (now forms) (now whats) c ⌝ }
+    requires { ⌜ c < length (now waits) ⌝ }
+    ensures { λ r. ⌜ Arriving (was types) (was fun) c s memo waits forms whats r ⌝ }
+    ensures lengths { λ r. ⌜ Steady memo waits forms whats ⌝ }
 {
-    let k = kept[c];
+    let k = stored(memo, c);
     if k == 0 {
         save_state(s, forms, whats);
-        kept[c] = small(s.nodes + 1);
+        set_stored(memo, c, small(s.nodes + 1));
         insert(waits, c);
         return 0;
     }
@@ -93,7 +92,7 @@ fn merge(
         return 9;
     };
     if changed {
-        kept[c] = small(nodes + 1);
+        set_stored(memo, c, small(nodes + 1));
         insert(waits, c);
     }
     0
@@ -104,7 +103,7 @@ pub fn arrive(
     types: &[u32],
     offs: &[u32],
     fun: &[u32],
-    kept: &mut [u32],
+    memo: &mut [u32],
     waits: &mut [u32],
     c: usize,
     s: State,
@@ -113,45 +112,43 @@ pub fn arrive(
 ) -> u32
     requires { ⌜ Accepted (now types) (now offs) (now fun) ⌝ }
     requires { ⌜ Stated (now types) (local-types (now fun)) s ⌝ }
-    requires { ⌜ (c < length (now kept)) × (c < length (now waits)) ⌝ }
-    requires { ⌜ ((k : Option Forest) × Saved (now types) (local-types (now fun)) (now forms) (now whats) (word (now kept) c) k) ⌝ }
-    ensures { λ r. ⌜ ((k : Option Forest) (E : Forest) → Saved (now (types .entry)) (local-types (now (fun .entry))) (now (forms .entry)) (now (whats .entry)) (word (now (kept .entry)) c) k → Holds (now (types .entry)) (local-types (now (fun .entry))) (value s) E → Arrives (now (types .entry)) (local-types (now (fun .entry))) c (now (kept .entry)) (now (waits .entry)) (takes (now (types .entry)) k E) (now (forms .exit)) (now (whats .exit)) (now (kept .exit)) (now (waits .exit)) r) ⌝ }
-    ensures lengths { λ r. ⌜ (length (now (kept .exit)) ≡ length (now (kept .entry))) × (length (now (waits .exit)) ≡ length (now (waits .entry))) × (length (now (forms .exit)) ≡ length (now (forms .entry))) × (length (now (whats .exit)) ≡ length (now (whats .entry))) ⌝ }
+    requires { ⌜ Shelved (now types) (now fun) (now memo) (now forms) (now whats) c ⌝ }
+    requires { ⌜ c < length (now waits) ⌝ }
+    ensures { λ r. ⌜ Arriving (was types) (was fun) c s memo waits forms whats r ⌝ }
+    ensures lengths { λ r. ⌜ Steady memo waits forms whats ⌝ }
 {
-    let k = kept[c];
+    let k = stored(memo, c);
     if stands(k, s, forms, whats) {
         return 0;
     }
-    merge(types, offs, fun, kept, waits, c, s, forms, whats)
+    merge(types, offs, fun, memo, waits, c, s, forms, whats)
 }
 
-// `Elaboration::goto_join_point`: the statements from the state to the stored one are recorded at the item i, or at the entry.
+// `Elaboration::goto_join_point`: the statements from the state to the stored one are recorded at the jump's item, or at the entry.
 pub fn reconcile<'a>(
     types: &[u32],
     offs: &[u32],
     fun: &[u32],
-    kept: &[u32],
-    visited: &[u32],
+    memo: &[u32],
     waits: &mut [u32],
-    c: usize,
+    j: Jump,
     s: State,
     forms: &'a [u16],
     whats: &'a [u16],
-    i: usize,
-    entry: bool,
     out: &mut [u32],
     o: Out,
 ) -> Visit
     requires { ⌜ Accepted (now types) (now offs) (now fun) ⌝ }
     requires { ⌜ Stated (now types) (local-types (now fun)) s ⌝ }
-    requires { ⌜ (c < length (now kept)) × (c < length (now visited)) × (c < length (now waits)) ⌝ }
-    requires { ⌜ ((k : Option Forest) × Saved (now types) (local-types (now fun)) (now forms) (now whats) (word (now kept) c) k) ⌝ }
-    requires { ⌜ i < nitems (now fun) ⌝ }
+    requires { ⌜ Shelved (now types) (now fun) (now memo) (now forms) (now whats) (j .block) ⌝ }
+    requires { ⌜ j .block < length (now waits) ⌝ }
+    requires { ⌜ j .item < nitems (now fun) ⌝ }
     requires { ⌜ Counted (now out) o ⌝ }
-    ensures { λ r. ⌜ ((k : Option Forest) (E : Forest) → Saved (now (types .entry)) (local-types (now (fun .entry))) (now (forms .entry)) (now (whats .entry)) (word (now (kept .entry)) c) k → Holds (now (types .entry)) (local-types (now (fun .entry))) (value s) E → Reconciles (now (fun .entry)) (point (now (fun .entry)) entry i) c (now (visited .entry)) (now (waits .entry)) (now (out .entry)) o (owed (now (types .entry)) k E) (now (waits .exit)) (now (out .exit)) r) ⌝ }
-    ensures lengths { λ r. ⌜ length (now (waits .exit)) ≡ length (now (waits .entry)) ⌝ }
+    ensures { λ r. ⌜ Reconciling (was types) (was fun) j s (was memo) (was forms) (was whats) waits out o r ⌝ }
+    ensures lengths { λ r. ⌜ length (after waits) ≡ length (was waits) ⌝ }
 {
-    let k = kept[c];
+    let c = j.block;
+    let k = stored(memo, c);
     if k == 0 {
         return Visit::Refused(0);
     }
@@ -163,15 +160,15 @@ pub fn reconcile<'a>(
         s,
         to,
         out,
-        point_of(i, entry),
-        o,
+        at_point(o, point_of(j.item, j.entry)),
     );
     match a {
         Collected::Refused(n) => Visit::Refused(n),
         Collected::Done(q) => {
-            if visited[c] == 0 {
-                insert(waits, c);
+            if visited(memo, c) {
+                return Visit::Over(q);
             }
+            insert(waits, c);
             Visit::Over(q)
         }
     }

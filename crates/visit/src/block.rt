@@ -1,26 +1,22 @@
 // `basic_block` and `goto`. A target that is no join point is entered at once.
 ghost use mathlib.Core.Path.{_≡_};
-ghost use mathlib.Core.Bool.{true, false};
-ghost use Prim.Native.Nat.{suc, _<_};
-ghost use Rattle.model.specs.Tree.{Forest};
-ghost use Rattle.model.specs.Collect.{folds-at-ret};
-ghost use Rattle.model.specs.Function.{nargs, nblocks, nitems, start, stop, local-types};
+ghost use mathlib.Core.Bool.{true};
+ghost use Prim.Native.Nat.{_<_};
+ghost use Rattle.moments.specs.Lent.{was, after};
+ghost use Rattle.model.specs.Function.{nitems, nblocks, local-types};
 ghost use Rattle.model.specs.Block.{is-join-point};
-ghost use Rattle.model.specs.Frame.{mark};
-ghost use Rattle.records.specs.Here.{Holds};
-ghost use Rattle.blocks.specs.Points.{share-number};
-ghost use Rattle.state.specs.Value.{value, state-in};
+ghost use Rattle.state.specs.Value.{state-in};
 ghost use Rattle.statements.specs.Kept.{Counted};
 ghost use Rattle.body.specs.Given.{Accepted, Stated};
-ghost use Rattle.body.specs.Uses.{Tells};
-ghost use Rattle.visit.specs.Memory.{Memory, arrives, enters, jumps, departs};
-ghost use Rattle.visit.specs.Shares.{arrays, Shared, Remembers};
-ghost use Rattle.visit.specs.Visits.{Spoken, Ongoing, exit, Visits};
+ghost use Rattle.visit.specs.Shares.{arrays-in, change, Shared};
+ghost use Rattle.visit.specs.Ways.{Come, Leaps};
+ghost use Rattle.visit.specs.Visits.{Ongoing, Returns, Meets, Jumps, Enters, Departs, start-jump};
 use crate::arrive::arrive;
 use crate::arrive::reconcile;
 use body::arms::Plan;
 use body::arms::plan_of;
 use body::arms::target_state;
+use body::items::Items;
 use body::items::pass_items;
 use body::items::point_of;
 use collect::states::collect_folds_at_ret;
@@ -33,6 +29,7 @@ use mir::function::start_of;
 use mir::function::stop_of;
 use state::nodes::State;
 use statements::Out;
+use statements::at_point;
 use type_record::record::wide;
 
 // How a visit ends: with what is recorded, or refused.
@@ -41,48 +38,57 @@ pub enum Visit {
     Refused(u32),
 }
 
-// The state s arrives at the join point c, whose share is number p.
+// A block that is entered, and how many blocks the way to it has not entered.
+pub struct Way {
+    pub block: usize,
+    pub left: usize,
+}
+
+// A jump to a block, by an item or from the entry, and how many blocks the way to it has not entered.
+pub struct Jump {
+    pub item: usize,
+    pub entry: bool,
+    pub block: usize,
+    pub left: usize,
+}
+
+// The state s arrives at a join point.
 fn meet(
     types: &[u32],
     offs: &[u32],
     fun: &[u32],
-    kept: &mut [u32],
-    visited: &[u32],
+    points: &[u32],
+    memo: &mut [u32],
     waits: &mut [u32],
     forms: &mut [u16],
     whats: &mut [u16],
     out: &mut [u32],
-    recording: bool,
-    p: usize,
-    i: usize,
-    entry: bool,
-    c: usize,
+    j: Jump,
     s: State,
     o: Out,
 ) -> Visit
     requires { ⌜ Accepted (now types) (now offs) (now fun) ⌝ }
-    requires { ⌜ Ongoing (now types) (now fun) recording (arrays (now kept) (now visited) (now waits) (now forms) (now whats)) (now out) o ⌝ }
-    requires { ⌜ (i < nitems (now fun)) × (c < nblocks (now fun)) ⌝ }
-    requires { ⌜ (is-join-point (now fun) c ≡ true) × (p ≡ share-number (now fun) c) ⌝ }
+    requires { ⌜ Shared (now fun) (now points) ⌝ }
+    requires { ⌜ Ongoing (now types) (now fun) (arrays-in (now memo) (now waits) (now forms) (now whats)) (now out) o ⌝ }
+    requires { ⌜ (j .item < nitems (now fun)) × (j .block < nblocks (now fun)) ⌝ }
+    requires { ⌜ is-join-point (now fun) (j .block) ≡ true ⌝ }
     requires { ⌜ Stated (now types) (local-types (now fun)) s ⌝ }
-    ensures { λ r. ⌜ ((m : Memory) (E : Forest) → Remembers (now (types .entry)) (now (fun .entry)) m (arrays (now (kept .entry)) (now (visited .entry)) (now (waits .entry)) (now (forms .entry)) (now (whats .entry))) → Spoken (now (fun .entry)) recording (m .lines) (now (out .entry)) o → Holds (now (types .entry)) (local-types (now (fun .entry))) (value s) E → Visits (now (types .entry)) (now (fun .entry)) recording (arrays (now (kept .entry)) (now (visited .entry)) (now (waits .entry)) (now (forms .entry)) (now (whats .entry))) (now (out .entry)) (arrives (now (types .entry)) (now (fun .entry)) recording (exit (now (fun .entry)) entry i c E) m) (arrays (now (kept .exit)) (now (visited .entry)) (now (waits .exit)) (now (forms .exit)) (now (whats .exit))) (now (out .exit)) r) ⌝ }
+    ensures { λ r. ⌜ Meets (was types) (was fun) (change memo waits forms whats) out j s o r ⌝ }
 {
-    let a = 512 * (p - 1);
+    let c = j.block;
+    let a = 512 * (wide(points[c]) - 1);
     let e = a + 512;
-    if recording {
+    if o.recording {
         return reconcile(
             types,
             offs,
             fun,
-            kept,
-            visited,
+            memo,
             waits,
-            c,
+            j,
             s,
             &forms[a..e],
             &whats[a..e],
-            i,
-            entry,
             out,
             o,
         );
@@ -91,7 +97,7 @@ fn meet(
         types,
         offs,
         fun,
-        kept,
+        memo,
         waits,
         c,
         s,
@@ -111,7 +117,6 @@ fn returned(
     fun: &[u32],
     i: usize,
     s: State,
-    recording: bool,
     out: &mut [u32],
     o: Out,
 ) -> Out
@@ -119,9 +124,9 @@ fn returned(
     requires { ⌜ i < nitems (now fun) ⌝ }
     requires { ⌜ Stated (now types) (local-types (now fun)) s ⌝ }
     requires { ⌜ Counted (now out) o ⌝ }
-    ensures { λ r. ⌜ ((E : Forest) → Holds (now (types .entry)) (local-types (now (fun .entry))) (value s) E → Tells (now (fun .entry)) recording (now (out .entry)) o (now (out .exit)) r (mark i (folds-at-ret (now (types .entry)) (nargs (now (fun .entry))) E))) ⌝ }
+    ensures { λ r. ⌜ Returns (was types) (was fun) i s (was out) o (after out) r ⌝ }
 {
-    if recording {
+    if o.recording {
         return collect_folds_at_ret(
             types,
             offs,
@@ -129,125 +134,103 @@ fn returned(
             nargs(fun),
             s,
             out,
-            point_of(i, false),
-            o,
+            at_point(o, point_of(i, false)),
         );
     }
     o
 }
 
-// A jump to the block c by the item i, with at most `left` blocks on the way.
+// The jump is taken.
 fn goto(
     types: &[u32],
     offs: &[u32],
     fun: &[u32],
     points: &[u32],
-    kept: &mut [u32],
-    visited: &[u32],
+    memo: &mut [u32],
     waits: &mut [u32],
     forms: &mut [u16],
     whats: &mut [u16],
     out: &mut [u32],
-    recording: bool,
-    left: usize,
-    i: usize,
-    c: usize,
+    j: Jump,
     s: State,
     o: Out,
 ) -> Visit
     requires { ⌜ Accepted (now types) (now offs) (now fun) ⌝ }
     requires { ⌜ Shared (now fun) (now points) ⌝ }
-    requires { ⌜ Ongoing (now types) (now fun) recording (arrays (now kept) (now visited) (now waits) (now forms) (now whats)) (now out) o ⌝ }
-    requires { ⌜ (i < nitems (now fun)) × (c < nblocks (now fun)) ⌝ }
+    requires { ⌜ Ongoing (now types) (now fun) (arrays-in (now memo) (now waits) (now forms) (now whats)) (now out) o ⌝ }
+    requires { ⌜ Leaps (now types) (now fun) j ⌝ }
     requires { ⌜ Stated (now types) (local-types (now fun)) s ⌝ }
-    ensures { λ r. ⌜ ((m : Memory) (E : Forest) → Remembers (now (types .entry)) (now (fun .entry)) m (arrays (now (kept .entry)) (now (visited .entry)) (now (waits .entry)) (now (forms .entry)) (now (whats .entry))) → Spoken (now (fun .entry)) recording (m .lines) (now (out .entry)) o → Holds (now (types .entry)) (local-types (now (fun .entry))) (value s) E → Visits (now (types .entry)) (now (fun .entry)) recording (arrays (now (kept .entry)) (now (visited .entry)) (now (waits .entry)) (now (forms .entry)) (now (whats .entry))) (now (out .entry)) (jumps (now (types .entry)) (now (fun .entry)) recording left (exit (now (fun .entry)) false i c E) m) (arrays (now (kept .exit)) (now (visited .entry)) (now (waits .exit)) (now (forms .exit)) (now (whats .exit))) (now (out .exit)) r) ⌝ }
+    ensures { λ r. ⌜ Jumps (was types) (was fun) (change memo waits forms whats) out j s o r ⌝ }
 {
-    let p = wide(points[c]);
-    if p != 0 {
+    let c = j.block;
+    if points[c] != 0 {
         return meet(
             types,
             offs,
             fun,
-            kept,
-            visited,
+            points,
+            memo,
             waits,
             forms,
             whats,
             out,
-            recording,
-            p,
-            i,
-            false,
-            c,
+            j,
             s,
             o,
         );
     }
-    if left == 0 {
-        return Visit::Refused(0);
-    }
+    let w = Way {
+        block: c,
+        left: j.left - 1,
+    };
     basic_block(
         types,
         offs,
         fun,
         points,
-        kept,
-        visited,
+        memo,
         waits,
         forms,
         whats,
         out,
-        recording,
-        left - 1,
-        c,
+        w,
         s,
         o,
     )
 }
 
-// The block b is entered in the state s.
+// A block is entered in the state s.
 pub fn basic_block(
     types: &[u32],
     offs: &[u32],
     fun: &[u32],
     points: &[u32],
-    kept: &mut [u32],
-    visited: &[u32],
+    memo: &mut [u32],
     waits: &mut [u32],
     forms: &mut [u16],
     whats: &mut [u16],
     out: &mut [u32],
-    recording: bool,
-    left: usize,
-    b: usize,
+    w: Way,
     s: State,
     o: Out,
 ) -> Visit
     requires { ⌜ Accepted (now types) (now offs) (now fun) ⌝ }
     requires { ⌜ Shared (now fun) (now points) ⌝ }
-    requires { ⌜ Ongoing (now types) (now fun) recording (arrays (now kept) (now visited) (now waits) (now forms) (now whats)) (now out) o ⌝ }
-    requires { ⌜ b < nblocks (now fun) ⌝ }
+    requires { ⌜ Ongoing (now types) (now fun) (arrays-in (now memo) (now waits) (now forms) (now whats)) (now out) o ⌝ }
+    requires { ⌜ Come (now types) (now fun) w ⌝ }
     requires { ⌜ Stated (now types) (local-types (now fun)) s ⌝ }
-    ensures { λ r. ⌜ ((m : Memory) (E : Forest) → Remembers (now (types .entry)) (now (fun .entry)) m (arrays (now (kept .entry)) (now (visited .entry)) (now (waits .entry)) (now (forms .entry)) (now (whats .entry))) → Spoken (now (fun .entry)) recording (m .lines) (now (out .entry)) o → Holds (now (types .entry)) (local-types (now (fun .entry))) (value s) E → Visits (now (types .entry)) (now (fun .entry)) recording (arrays (now (kept .entry)) (now (visited .entry)) (now (waits .entry)) (now (forms .entry)) (now (whats .entry))) (now (out .entry)) (enters (now (types .entry)) (now (fun .entry)) recording (suc left) b E m) (arrays (now (kept .exit)) (now (visited .entry)) (now (waits .exit)) (now (forms .exit)) (now (whats .exit))) (now (out .exit)) r) ⌝ }
+    ensures { λ r. ⌜ Enters (was types) (was fun) (change memo waits forms whats) out w s o r ⌝ }
 {
-    let from = start_of(fun, b);
-    let end = stop_of(fun, b);
-    let mut fs = s.forms;
-    let mut ws = s.whats;
-    let r = pass_items(
-        types,
-        offs,
-        fun,
+    let from = start_of(fun, w.block);
+    let end = stop_of(fun, w.block);
+    let items = Items {
         from,
         end,
-        false,
-        &mut fs,
-        &mut ws,
-        s.nodes,
-        recording,
-        out,
-        o,
-    );
+        entry: false,
+    };
+    let mut fs = s.forms;
+    let mut ws = s.whats;
+    let r = pass_items(types, offs, fun, items, &mut fs, &mut ws, s.nodes, out, o);
     if r.refusal != 0 {
         return Visit::Refused(r.refusal);
     }
@@ -259,24 +242,19 @@ pub fn basic_block(
             whats: ws,
             nodes: n,
         };
-        return Visit::Over(returned(types, offs, fun, end - 1, t, recording, out, q));
+        return Visit::Over(returned(types, offs, fun, end - 1, t, out, q));
     }
     terminator(
         types,
         offs,
         fun,
         points,
-        kept,
-        visited,
+        memo,
         waits,
         forms,
         whats,
         out,
-        recording,
-        left,
-        b,
-        from,
-        end,
+        w,
         &fs,
         &ws,
         n,
@@ -284,23 +262,19 @@ pub fn basic_block(
     )
 }
 
-// The ender of the block b: it is left by its targets, in the state that its items leave in fs and ws, of n nodes. All arms of a match are tried first.
+// The ender of the block: it is left by its targets, in the state that its items leave in fs and ws, of n nodes. All arms of a match
+// are tried first.
 fn terminator<'a>(
     types: &[u32],
     offs: &[u32],
     fun: &[u32],
     points: &[u32],
-    kept: &mut [u32],
-    visited: &[u32],
+    memo: &mut [u32],
     waits: &mut [u32],
     forms: &mut [u16],
     whats: &mut [u16],
     out: &mut [u32],
-    recording: bool,
-    left: usize,
-    b: usize,
-    from: usize,
-    end: usize,
+    w: Way,
     fs: &'a [u16],
     ws: &'a [u16],
     n: usize,
@@ -308,43 +282,45 @@ fn terminator<'a>(
 ) -> Visit
     requires { ⌜ Accepted (now types) (now offs) (now fun) ⌝ }
     requires { ⌜ Shared (now fun) (now points) ⌝ }
-    requires { ⌜ Ongoing (now types) (now fun) recording (arrays (now kept) (now visited) (now waits) (now forms) (now whats)) (now out) o ⌝ }
-    requires { ⌜ b < nblocks (now fun) ⌝ }
-    requires { ⌜ (from ≡ start (now fun) b) × (end ≡ stop (now fun) b) ⌝ }
+    requires { ⌜ Ongoing (now types) (now fun) (arrays-in (now memo) (now waits) (now forms) (now whats)) (now out) o ⌝ }
+    requires { ⌜ Come (now types) (now fun) w ⌝ }
     requires { ⌜ Stated (now types) (local-types (now fun)) (state-in (now fs) (now ws) n) ⌝ }
-    ensures { λ r. ⌜ ((m : Memory) (E : Forest) → Remembers (now (types .entry)) (now (fun .entry)) m (arrays (now (kept .entry)) (now (visited .entry)) (now (waits .entry)) (now (forms .entry)) (now (whats .entry))) → Spoken (now (fun .entry)) recording (m .lines) (now (out .entry)) o → Holds (now (types .entry)) (local-types (now (fun .entry))) (value (state-in (now (fs .entry)) (now (ws .entry)) n)) E → Visits (now (types .entry)) (now (fun .entry)) recording (arrays (now (kept .entry)) (now (visited .entry)) (now (waits .entry)) (now (forms .entry)) (now (whats .entry))) (now (out .entry)) (departs (now (types .entry)) (now (fun .entry)) recording left b E m) (arrays (now (kept .exit)) (now (visited .entry)) (now (waits .exit)) (now (forms .exit)) (now (whats .exit))) (now (out .exit)) r) ⌝ }
+    ensures { λ r. ⌜ Departs (was types) (was fun) (change memo waits forms whats) out w (state-in (was fs) (was ws) n) o r ⌝ }
 {
-    let p = plan_of(types, offs, fun, b, from, end, fs, ws, n);
+    let b = w.block;
+    let p = plan_of(types, offs, fun, b, fs, ws, n);
     if let Plan::Refused(k) = p {
         return Visit::Refused(k);
     }
+    let end = stop_of(fun, b);
     let mut q = o;
-    let mut i = from;
+    let mut i = start_of(fun, b);
     while i < end {
         if op_of(fun, i) == 10 {
             let u = target_state(types, offs, fun, p, i, fs, ws, n);
-            let c = wide(arg_of(fun, i));
+            let j = Jump {
+                item: i,
+                entry: false,
+                block: wide(arg_of(fun, i)),
+                left: w.left,
+            };
             let v = goto(
                 types,
                 offs,
                 fun,
                 points,
-                kept,
-                visited,
+                memo,
                 waits,
                 forms,
                 whats,
                 out,
-                recording,
-                left,
-                i,
-                c,
+                j,
                 u,
                 q,
             );
             match v {
-                Visit::Over(w) => {
-                    q = w;
+                Visit::Over(x) => {
+                    q = x;
                 }
                 Visit::Refused(k) => {
                     return Visit::Refused(k);
@@ -362,58 +338,59 @@ pub fn begin(
     offs: &[u32],
     fun: &[u32],
     points: &[u32],
-    kept: &mut [u32],
-    visited: &[u32],
+    memo: &mut [u32],
     waits: &mut [u32],
     forms: &mut [u16],
     whats: &mut [u16],
     out: &mut [u32],
-    recording: bool,
     s: State,
     o: Out,
 ) -> Visit
     requires { ⌜ Accepted (now types) (now offs) (now fun) ⌝ }
     requires { ⌜ Shared (now fun) (now points) ⌝ }
-    requires { ⌜ Ongoing (now types) (now fun) recording (arrays (now kept) (now visited) (now waits) (now forms) (now whats)) (now out) o ⌝ }
+    requires { ⌜ Ongoing (now types) (now fun) (arrays-in (now memo) (now waits) (now forms) (now whats)) (now out) o ⌝ }
     requires { ⌜ (0 < nitems (now fun)) × (0 < nblocks (now fun)) ⌝ }
     requires { ⌜ Stated (now types) (local-types (now fun)) s ⌝ }
-    ensures { λ r. ⌜ ((m : Memory) (E : Forest) → Remembers (now (types .entry)) (now (fun .entry)) m (arrays (now (kept .entry)) (now (visited .entry)) (now (waits .entry)) (now (forms .entry)) (now (whats .entry))) → Spoken (now (fun .entry)) recording (m .lines) (now (out .entry)) o → Holds (now (types .entry)) (local-types (now (fun .entry))) (value s) E → Visits (now (types .entry)) (now (fun .entry)) recording (arrays (now (kept .entry)) (now (visited .entry)) (now (waits .entry)) (now (forms .entry)) (now (whats .entry))) (now (out .entry)) (jumps (now (types .entry)) (now (fun .entry)) recording (nblocks (now (fun .entry))) (exit (now (fun .entry)) true 0 0 E) m) (arrays (now (kept .exit)) (now (visited .entry)) (now (waits .exit)) (now (forms .exit)) (now (whats .exit))) (now (out .exit)) r) ⌝ }
+    ensures { λ r. ⌜ Jumps (was types) (was fun) (change memo waits forms whats) out (start-jump (was fun)) s o r ⌝ }
 {
-    let p = wide(points[0]);
-    if p != 0 {
+    let n = nblocks(fun);
+    if points[0] != 0 {
+        let j = Jump {
+            item: 0,
+            entry: true,
+            block: 0,
+            left: n,
+        };
         return meet(
             types,
             offs,
             fun,
-            kept,
-            visited,
+            points,
+            memo,
             waits,
             forms,
             whats,
             out,
-            recording,
-            p,
-            0,
-            true,
-            0,
+            j,
             s,
             o,
         );
     }
+    let w = Way {
+        block: 0,
+        left: n - 1,
+    };
     basic_block(
         types,
         offs,
         fun,
         points,
-        kept,
-        visited,
+        memo,
         waits,
         forms,
         whats,
         out,
-        recording,
-        nblocks(fun) - 1,
-        0,
+        w,
         s,
         o,
     )

@@ -13,7 +13,7 @@ use Rattle.model.specs.State.{Code}
 use Rattle.model.specs.Block.{elem-of}
 use Rattle.base.specs.Typed.{Typed}
 use Rattle.records.specs.Codes.{size-pos}
-use Rattle.state.specs.Spliced.{splice, Replaced}
+use Rattle.state.specs.Spliced.{splice}
 use Rattle.state.specs.Value.{state-in}
 use Rattle.state.specs.declared.nodes.State.{State}
 use Rattle.walk.specs.Fresh.{folded, bud, sprout, stub, variant, mark, trail}
@@ -24,7 +24,7 @@ use Rattle.walk.specs.declared.along.Walk.{Walk}
 use Rattle.walk.specs.declared.apply.Pen.{Pen}
 use Rattle.walk.proofs.Growing.{Sprig, sprig-to, Sprung, Sprouted, sprouted}
 use Rattle.walk.proofs.Sites.{bud-folded}
-use Rattle.walk.proofs.Inks.{encoded-long, inked-none, inked-encoded}
+use Rattle.walk.proofs.Inks.{Replaced, encoded-long, inked-none, inked-encoded}
 use Rattle.walk.proofs.Turns.{to-same, stub-short, mark-form, mark-what, inked-marked}
 use Rattle.walk.proofs.Ends.{tip-none, tip-last}
 

@@ -1,5 +1,5 @@
 -- Codes written over zeros, one after another (`Inked`); and what is written over a folded node of a state (`Encoded`).
-use mathlib.Core.Path.{_≡_, refl, sym, _∙_, ap, ap₂, subst}
+use mathlib.Core.Path.{_≡_, refl, sym, _∙_, ap, ap₂}
 use mathlib.Core.List.{List, [], _∷_, _++_, map, append-assoc, map-append}
 use Prim.Native.Nat.{ℕ, zero, suc, _+_, _-_, _<_, _≤_}
 use native.Mathlib.Omega.{arith}
@@ -8,7 +8,8 @@ use lib.Seq.{set-at, take-at, drop-at}
 use Rattle.model.specs.State.{Code, padded}
 use Rattle.records.specs.Here.{firsts, seconds}
 use Rattle.records.specs.Pairs.{length-padded, take-padded}
-use Rattle.state.specs.Spliced.{fronted, splice, Replaced}
+use Rattle.state.specs.Spliced.{fronted, splice}
+use Rattle.state.proofs.Fronted.{padded-fronted}
 use Rattle.state.specs.declared.nodes.State.{State}
 use Rattle.walk.specs.Applied.{Encoded, Inked, filled}
 use Rattle.walk.proofs.Frames.{zeros}
@@ -60,17 +61,15 @@ encoded-long {cs = cs} E = (
   ap length (E .whats) ∙ length-padded (seconds cs) (omega (arith, E .few, length-map cs (λ c. c .1))),
 )
 
--- zeros stand behind a list of n that is padded
-padded-fronted : (l : List ℕ) (n : ℕ) → length l ≡ n → padded l ≡ fronted (padded l) n
-unfolding padded fronted
-padded-fronted l n e = ap (λ (k : ℕ). l ++ replicate (512 - k) 0) e ∙ ap (λ (a : List ℕ). a ++ replicate (512 - n) 0) (sym (take-padded l n e))
-
 -- zeros stand behind its codes
 pub encoded-fronted : {s : State} {cs : List Code} → Encoded s cs → (s .forms ≡ fronted (s .forms) (s .nodes)) × (s .whats ≡ fronted (s .whats) (s .nodes))
-encoded-fronted {s} {cs} E = (
-  subst (λ (a : List ℕ). a ≡ fronted a (s .nodes)) (sym (E .forms)) (padded-fronted (firsts cs) (s .nodes) (length-map cs (λ c. c .0) ∙ sym (E .nodes))),
-  subst (λ (a : List ℕ). a ≡ fronted a (s .nodes)) (sym (E .whats)) (padded-fronted (seconds cs) (s .nodes) (length-map cs (λ c. c .1) ∙ sym (E .nodes))),
-)
+encoded-fronted {s} {cs} E =
+    let n = s .nodes in
+    let f : length (firsts cs) ≡ n = length-map cs (λ c. c .0) ∙ sym (E .nodes) in
+    let w : length (seconds cs) ≡ n = length-map cs (λ c. c .1) ∙ sym (E .nodes) in (
+      E .forms ∙ sym (padded-fronted (s .forms) (firsts cs) n (ap (take n) (E .forms) ∙ take-padded (firsts cs) n f) f),
+      E .whats ∙ sym (padded-fronted (s .whats) (seconds cs) n (ap (take n) (E .whats) ∙ take-padded (seconds cs) n w) w),
+    )
 
 -- codes between others, padded: what is before them
 front-padded : (b y e : List ℕ) (i : ℕ) → length b ≡ i → take i (padded (b ++ (y ++ e))) ≡ b
@@ -133,6 +132,12 @@ module _ (h : Code → ℕ) (z : h (0, 0) ≡ 0) (b y e cs : List Code) (i k n :
       ∙ ap₂ (λ (w : List ℕ) (j : ℕ). take i w ++ (mid ++ (take (n - j) (drop j w) ++ replicate (512 - (i + k + (n - j))) 0))) parts (sym ly)
       ∙ splice-padded hb hy he mid i k n lb lm ln
       ∙ ap padded (sym (map-between h b (filled cs k) e ∙ ap (λ (w : List ℕ). hb ++ (w ++ he)) f))
+
+-- in r the nodes of s from i up to j have given way to `gap` folded ones
+pub record Replaced (s : State) (i j gap : ℕ) (r : State) : Type 0 where
+  pub forms : r .forms ≡ splice (s .forms) i gap j (s .nodes)
+  pub whats : r .whats ≡ splice (s .whats) i gap j (s .nodes)
+  pub nodes : r .nodes ≡ i + gap + (s .nodes - j)
 
 -- a state whose codes between others were replaced, and written over
 pub inked-encoded : (s r : State) (fs ws : List ℕ) (b y e cs : List Code) (i j k : ℕ) → Encoded s (b ++ (y ++ e)) → length b ≡ i → j ≡ i + length y

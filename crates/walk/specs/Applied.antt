@@ -6,16 +6,16 @@ use mathlib.Core.List.{List, [], _∷_, _++_, map}
 use Prim.Native.Nat.{ℕ, suc, _+_, _-_, _≤_, _<_}
 use lib.ListN.{length, set, replicate}
 use lib.Dec.{eqb}
-use Rattle.model.specs.Types.{ntypes}
+use Rattle.model.specs.Types.{ntypes, kind, form}
 use Rattle.model.specs.Tree.{Tree}
 use Rattle.model.specs.State.{Code, codes, padded}
-use Rattle.model.specs.Place.{Place}
+use Rattle.model.specs.Place.{Elem, Place}
 use Rattle.model.specs.Block.{elem-of}
 use Rattle.records.specs.Here.{Coded, firsts, seconds}
 use Rattle.state.specs.declared.nodes.State.{State}
 use Rattle.laws.specs.Places.{no-index}
 use Rattle.walk.specs.Way.{route}
-use Rattle.walk.specs.Fresh.{folded, grows, sprout, trail, stub, mark}
+use Rattle.walk.specs.Fresh.{folded, variant, grows, sprout, trail, stub, mark}
 use Rattle.walk.specs.declared.step.Fresh.{Fresh}
 use Rattle.walk.specs.declared.step.Opened.the-variants.{To}
 use Rattle.walk.specs.declared.along.Walk.{Walk}
@@ -32,9 +32,17 @@ pub record Encoded (s : State) (cs : List Code) : Type 0 where
 unfoldable pub marked : Bool → List ℕ → ℕ → ℕ → List ℕ
 marked was-open l i v = cond was-open l (set l i v)
 
+-- the node at i is written as the step e opens it, unless f has it open already
+abbrev pub Marks : List ℕ → Fresh → Elem → ℕ → List ℕ → List ℕ → List ℕ → List ℕ → Type 0
+Marks Γ f e i fs ws fs′ ws′ = (fs′ ≡ marked (f .opened) fs i (form (kind Γ (f .typ)))) × (ws′ ≡ marked (f .opened) ws i (variant e))
+
 -- over n zeros from i on stand the codes cs, each as h says, then zeros as before
 abbrev pub Inked : (Code → ℕ) → ℕ → ℕ → List ℕ → List ℕ → List Code → Type 0
 Inked h i n l l′ cs = (a c : List ℕ) → l ≡ a ++ (replicate n 0 ++ c) → length a ≡ i → l′ ≡ a ++ (map h cs ++ (replicate (n - length cs) 0 ++ c))
+
+-- the items from..end are there, and few
+abbrev pub Stretch : List ℕ → List ℕ → ℕ → ℕ → Type 0
+Stretch ops args from end = (from ≤ end) × (end ≤ length ops) × (end ≤ length args) × (end ≤ 256)
 
 -- there is room for what the walk by types opens, from i on
 pub record Room (Γ : List ℕ) (es : Place) (t i : ℕ) (fs ws : List ℕ) : Type 0 where
@@ -49,6 +57,10 @@ pub record Penned (Γ : List ℕ) (es : Place) (t i : ℕ) (fs ws fs′ ws′ : 
   pub at : p .at ≡ i + length (trail Γ (folded t 0) es)
   pub forms : (n : ℕ) → suc (g .added) ≤ n → Inked (λ c. c .0) i n fs fs′ (trail Γ (folded t 0) es ++ stub Γ g)
   pub whats : (n : ℕ) → suc (g .added) ≤ n → Inked (λ c. c .1) i n ws ws′ (trail Γ (folded t 0) es ++ stub Γ g)
+
+-- wherever the walk by types leads
+abbrev pub Pens : List ℕ → Place → ℕ → ℕ → List ℕ → List ℕ → List ℕ → List ℕ → Pen → Type 0
+Pens Γ es t i fs ws fs′ ws′ p = (g : Fresh) → sprout Γ (folded t 0) es ≡ To g → Penned Γ es t i fs ws fs′ ws′ p g
 
 -- the codes of the node that the walk has come to, with a last step or none
 unfoldable pub tip : List ℕ → Fresh → ℕ → ℕ → List Code

@@ -47,6 +47,10 @@ abbrev pub Steps : (Γ fs ws : List ℕ) (i : ℕ) (e : Elem) (x : Tree) → Ste
 Steps Γ fs ws i e x (To n u) = Stepped Γ fs ws i e x n u
 Steps Γ fs ws i e x (Refused r) = (act : Tree → Answer Tree) → acts Γ e x >>= inside e act ≡ refused r
 
+-- along the tree at i, of type t
+abbrev pub Steps-at : (Γ fs ws : List ℕ) (i t : ℕ) (e : Elem) → Step → Type 0
+Steps-at Γ fs ws i t e r = (x : Tree) → Coded Γ fs ws i t x → Steps Γ fs ws i e x r
+
 -- the walk of p from x goes through open nodes, and on as that of q from y
 pub record Way (Γ : List ℕ) (p : Place) (x : Tree) (q : Place) (y : Tree) : Type 0 where
   pub frame : Frame Γ (codes Γ)

@@ -1,26 +1,18 @@
 // The walk: through open nodes up to the first folded one that must open, then by types alone. So 5, 6 and 7 come before
 // 9, and 9 is known before anything is written.
 ghost use mathlib.Core.Path.{_≡_};
-ghost use mathlib.Core.Bool.{true};
-ghost use mathlib.Core.Option.{some};
-ghost use Prim.Native.Nat.{_-_, _<_, _≤_};
-ghost use lib.ListN.{length};
+ghost use Prim.Native.Nat.{_<_, _≤_};
+ghost use Rattle.moments.specs.Lent.{was};
 ghost use Rattle.model.specs.Types.{ntypes};
-ghost use Rattle.model.specs.Tree.{Tree};
-ghost use Rattle.model.specs.Place.{Spot};
-ghost use Rattle.model.specs.Calls.{spot-of};
-ghost use Rattle.laws.specs.Places.{no-index};
-ghost use Rattle.records.specs.Here.{Coded, Here};
+ghost use Rattle.records.specs.Here.{Here};
 ghost use Rattle.type_record.specs.Sizes.{Ready};
-ghost use Rattle.walk.specs.Way.{route};
-ghost use Rattle.walk.specs.Fresh.{folded, sprout};
-ghost use Rattle.walk.specs.Site.{Short, Stopped, Passes, Walks, refusal-of};
+ghost use Rattle.walk.specs.Site.{Short, extent, onward, Passes-at, Walks-at, refusal-of};
 use crate::step::Fresh;
-use crate::step::INDEX;
 use crate::step::Opened;
 use crate::step::Step;
 use crate::step::step_folded;
 use crate::step::step_open;
+use mir::items::INDEX;
 use type_record::record::kind_of;
 
 // What a walk has found: the elements walked, counted with the root, and those passed before the step that first changed the
@@ -38,7 +30,7 @@ pub enum Walked {
     Refused(u32),
 }
 
-// How far the open nodes lead.
+// How far the open nodes lead: the elements passed, counted with the root, and the node and its type there.
 struct Through {
     at: usize,
     node: usize,
@@ -50,26 +42,18 @@ enum Passed {
     Refused(u32),
 }
 
-// The number of elements up to the first index, counted from the root: the place is walked so far.
-fn walked_length(ops: &[u32]) -> usize
-    requires { ⌜ 1 ≤ length (now ops) ⌝ }
-    ensures { λ r. ⌜ Stopped (now (ops .entry)) r ⌝ }
-{
-    let n = ops.len();
-    let mut j = 1;
-    let walked = 'walk: loop {
-        if n <= j {
-            break 'walk j;
-        }
-        if ops[j] == INDEX {
-            break 'walk j;
-        }
-        j += 1;
-    };
-    walked
+// How far types lead from there: the elements walked, counted with the root, and the node there.
+struct Onward {
+    walked: usize,
+    fresh: Fresh,
 }
 
-// Through open nodes, from the tree at node, along the items before end.
+enum Led {
+    To(Onward),
+    Refused(u32),
+}
+
+// Through open nodes, from the tree at node: up to the end of the place, an index, or a folded node.
 fn pass_open<'a>(
     types: &[u32],
     offs: &[u32],
@@ -77,32 +61,34 @@ fn pass_open<'a>(
     whats: &'a [u16],
     ops: &[u32],
     args: &[u32],
-    end: usize,
     node: usize,
     typ: usize,
 ) -> Passed
     requires { ⌜ Ready (now types) (now offs) ⌝ }
     requires { ⌜ typ < ntypes (now types) ⌝ }
     requires { ⌜ Here (now types) (now forms) (now whats) node typ ⌝ }
-    requires { ⌜ (1 ≤ end) × (end ≤ length (now ops)) × (end ≤ length (now args)) ⌝ }
-    requires { ⌜ no-index (route (now ops) (now args) 1 (end - 1)) ≡ true ⌝ }
-    ensures { λ r. ⌜ ((x : Tree) → Coded (now (types .entry)) (now (forms .entry)) (now (whats .entry)) node typ x → Passes (now (types .entry)) (now (forms .entry)) (now (whats .entry)) (now (ops .entry)) (now (args .entry)) end node x r) ⌝ }
+    requires { ⌜ Short (now ops) (now args) ⌝ }
+    ensures { λ r. ⌜ Passes-at (was types) (was forms) (was whats) (was ops) (was args) node typ r ⌝ }
 {
+    let n = ops.len();
     let mut at = 1;
     let mut i = node;
     let mut t = typ;
-    while at < end {
-        if forms[i] == 0 {
-            return Passed::To(Through {
-                at,
-                node: i,
-                typ: t,
-            });
+    let passed = 'walk: loop {
+        if n <= at {
+            break 'walk at;
         }
-        let s = step_open(types, offs, forms, whats, i, t, ops[at], args[at]);
+        let op = ops[at];
+        if op == INDEX {
+            break 'walk at;
+        }
+        if forms[i] == 0 {
+            break 'walk at;
+        }
+        let s = step_open(types, offs, forms, whats, i, t, op, args[at]);
         match s {
-            Step::To { node: n, typ: u } => {
-                i = n;
+            Step::To { node: m, typ: u } => {
+                i = m;
                 t = u;
             }
             Step::Refused(r) => {
@@ -110,30 +96,31 @@ fn pass_open<'a>(
             }
         }
         at += 1;
-    }
+    };
     Passed::To(Through {
-        at,
+        at: passed,
         node: i,
         typ: t,
     })
 }
 
-// By types alone, from a folded node, along the items from..end.
+// By types alone, from a folded node of type typ, along the items from `from` on: up to the end of the place or an index. No
+// step is made where open nodes led as far.
 fn pass_folded(
     types: &[u32],
     offs: &[u32],
     ops: &[u32],
     args: &[u32],
     from: usize,
-    end: usize,
     typ: usize,
-) -> Opened
+) -> Led
     requires { ⌜ Ready (now types) (now offs) ⌝ }
     requires { ⌜ typ < ntypes (now types) ⌝ }
-    requires { ⌜ (from ≤ end) × (end ≤ length (now ops)) × (end ≤ length (now args)) × (end ≤ 256) ⌝ }
-    requires { ⌜ no-index (route (now ops) (now args) from (end - from)) ≡ true ⌝ }
-    ensures { λ r. ⌜ r ≡ sprout (now (types .entry)) (folded typ 0) (route (now (ops .entry)) (now (args .entry)) from (end - from)) ⌝ }
+    requires { ⌜ Short (now ops) (now args) ⌝ }
+    requires { ⌜ (1 ≤ from) × (from ≤ extent (now ops) (now args)) ⌝ }
+    ensures { λ r. ⌜ r ≡ onward (was types) (was ops) (was args) from typ ⌝ }
 {
+    let n = ops.len();
     let mut f = Fresh {
         typ,
         opened: false,
@@ -141,19 +128,26 @@ fn pass_folded(
         added: 0,
     };
     let mut at = from;
-    while at < end {
-        let s = step_folded(types, offs, f, ops[at], args[at]);
+    let walked = 'walk: loop {
+        if n <= at {
+            break 'walk at;
+        }
+        let op = ops[at];
+        if op == INDEX {
+            break 'walk at;
+        }
+        let s = step_folded(types, offs, f, op, args[at]);
         match s {
             Opened::To(g) => {
                 f = g;
             }
             Opened::Refused(r) => {
-                return Opened::Refused(r);
+                return Led::Refused(r);
             }
         }
         at += 1;
-    }
-    Opened::To(f)
+    };
+    Led::To(Onward { walked, fresh: f })
 }
 
 // From the node of a local, of type typ, along the place. Where it stops at an index the type must be an array.
@@ -171,26 +165,26 @@ pub fn walk_along<'a>(
     requires { ⌜ typ < ntypes (now types) ⌝ }
     requires { ⌜ Here (now types) (now forms) (now whats) node typ ⌝ }
     requires { ⌜ Short (now ops) (now args) ⌝ }
-    ensures { λ r. ⌜ ((x : Tree) (q : Spot) → Coded (now (types .entry)) (now (forms .entry)) (now (whats .entry)) node typ x → spot-of (now (ops .entry)) (now (args .entry)) ≡ some q → Walks (now (types .entry)) (now (forms .entry)) (now (whats .entry)) (now (ops .entry)) (now (args .entry)) node (q .place) x r) ⌝ }
+    ensures { λ r. ⌜ Walks-at (was types) (was forms) (was whats) (was ops) (was args) node typ r ⌝ }
 {
-    let end = walked_length(ops);
-    let p = pass_open(types, offs, forms, whats, ops, args, end, node, typ);
+    let p = pass_open(types, offs, forms, whats, ops, args, node, typ);
     match p {
         Passed::Refused(r) => Walked::Refused(r),
         Passed::To(th) => {
             let at = th.at;
             let t = th.typ;
-            let o = pass_folded(types, offs, ops, args, at, end, t);
+            let o = pass_folded(types, offs, ops, args, at, t);
             match o {
-                Opened::Refused(r) => Walked::Refused(r),
-                Opened::To(f) => {
-                    if end < ops.len() {
+                Led::Refused(r) => Walked::Refused(r),
+                Led::To(g) => {
+                    let f = g.fresh;
+                    if g.walked < ops.len() {
                         if kind_of(types, f.typ) != 4 {
                             return Walked::Refused(5);
                         }
                     }
                     Walked::To(Walk {
-                        walked: end,
+                        walked: g.walked,
                         passed: at,
                         node: th.node,
                         typ: t,

@@ -1,25 +1,24 @@
 // Carrying out what a walk has found: nodes opened on the way, a node folded.
 ghost use mathlib.Core.Path.{_≡_};
 ghost use mathlib.Core.Bool.{true};
-ghost use Prim.Native.Nat.{_-_, _<_, _≤_};
+ghost use Prim.Native.Nat.{_-_, _<_};
 ghost use lib.ListN.{length};
-ghost use Rattle.model.specs.Types.{ntypes, kind, form};
+ghost use Rattle.moments.specs.Lent.{was, after};
+ghost use Rattle.model.specs.Types.{ntypes};
 ghost use Rattle.model.specs.Block.{elem-of};
 ghost use Rattle.laws.specs.Places.{no-index};
 ghost use Rattle.type_record.specs.Sizes.{Sized, Ready};
 ghost use Rattle.state.specs.Value.{state-in};
 ghost use Rattle.walk.specs.Way.{route};
-ghost use Rattle.walk.specs.Fresh.{folded, sprout, distance, variant};
-ghost use Rattle.walk.specs.Applied.{marked, Room, Penned, Opens, Carried, Folds, Folded};
-ghost use Rattle.walk.specs.declared.step.Fresh.{Fresh};
-ghost use Rattle.walk.specs.declared.step.Opened.the-variants.{To};
+ghost use Rattle.walk.specs.Fresh.{distance, variant};
+ghost use Rattle.walk.specs.Applied.{Marks, Stretch, Room, Pens, Opens, Carried, Folds, Folded};
 use crate::along::Walk;
-use crate::step::DEREF;
-use crate::step::DOWNCAST;
-use crate::step::FIELD;
 use crate::step::Fresh;
 use crate::step::Opened;
 use crate::step::step_folded;
+use mir::items::DEREF;
+use mir::items::DOWNCAST;
+use mir::items::FIELD;
 use state::edit::close_up;
 use state::edit::make_room;
 use state::nodes::node_end;
@@ -64,7 +63,7 @@ fn write_open(
     requires { ⌜ f .typ < ntypes (now types) ⌝ }
     requires { ⌜ variant (elem-of op arg) < 65536 ⌝ }
     requires { ⌜ (i < length (now forms)) × (i < length (now whats)) ⌝ }
-    ensures { λ r. ⌜ (now (forms .exit) ≡ marked (f .opened) (now (forms .entry)) i (form (kind (now (types .entry)) (f .typ)))) × (now (whats .exit) ≡ marked (f .opened) (now (whats .entry)) i (variant (elem-of op arg))) ⌝ }
+    ensures { λ r. ⌜ Marks (was types) f (elem-of op arg) i (was forms) (was whats) (after forms) (after whats) ⌝ }
 {
     if f.opened {
         return;
@@ -95,10 +94,10 @@ fn write_path(
 ) -> Pen
     requires { ⌜ Ready (now types) (now offs) ⌝ }
     requires { ⌜ typ < ntypes (now types) ⌝ }
-    requires { ⌜ (from ≤ end) × (end ≤ length (now ops)) × (end ≤ length (now args)) × (end ≤ 256) ⌝ }
+    requires { ⌜ Stretch (now ops) (now args) from end ⌝ }
     requires { ⌜ no-index (route (now ops) (now args) from (end - from)) ≡ true ⌝ }
     requires { ⌜ Room (now types) (route (now ops) (now args) from (end - from)) typ i (now forms) (now whats) ⌝ }
-    ensures { λ r. ⌜ ((g : Fresh) → sprout (now (types .entry)) (folded typ 0) (route (now (ops .entry)) (now (args .entry)) from (end - from)) ≡ To g → Penned (now (types .entry)) (route (now (ops .entry)) (now (args .entry)) from (end - from)) typ i (now (forms .entry)) (now (whats .entry)) (now (forms .exit)) (now (whats .exit)) r g) ⌝ }
+    ensures { λ r. ⌜ Pens (was types) (route (was ops) (was args) from (end - from)) typ i (was forms) (was whats) (after forms) (after whats) r ⌝ }
 {
     let mut f = Fresh {
         typ,
@@ -142,7 +141,7 @@ pub fn open_nodes(
 ) -> usize
     requires { ⌜ Ready (now types) (now offs) ⌝ }
     requires { ⌜ Opens (now types) (now ops) (now args) (state-in (now forms) (now whats) nodes) w last «last_arg» ⌝ }
-    ensures { λ r. ⌜ Carried (now (types .entry)) (now (ops .entry)) (now (args .entry)) (state-in (now (forms .entry)) (now (whats .entry)) nodes) w last «last_arg» (state-in (now (forms .exit)) (now (whats .exit)) r) ⌝ }
+    ensures { λ r. ⌜ Carried (was types) (was ops) (was args) (state-in (was forms) (was whats) nodes) w last «last_arg» (state-in (after forms) (after whats) r) ⌝ }
 {
     let i = w.node;
     let f = w.fresh;
@@ -182,7 +181,7 @@ pub fn fold_at(
     requires { ⌜ Ready (now types) (now offs) ⌝ }
     requires { ⌜ t < ntypes (now types) ⌝ }
     requires { ⌜ Folds (now types) (state-in (now forms) (now whats) nodes) i t ⌝ }
-    ensures { λ r. ⌜ Folded (now (types .entry)) (state-in (now (forms .entry)) (now (whats .entry)) nodes) i t (state-in (now (forms .exit)) (now (whats .exit)) r) ⌝ }
+    ensures { λ r. ⌜ Folded (was types) (state-in (was forms) (was whats) nodes) i t (state-in (after forms) (after whats) r) ⌝ }
 {
     let e = node_end(types, offs, forms, whats, i, t);
     close_up(forms, nodes, i, e);

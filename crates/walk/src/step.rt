@@ -3,15 +3,18 @@ ghost use mathlib.Core.Path.{_≡_};
 ghost use mathlib.Core.Bool.{true};
 ghost use Prim.Native.Nat.{_<_};
 ghost use lib.ListN.{length, getD};
+ghost use Rattle.moments.specs.Lent.{was};
 ghost use Rattle.model.specs.Types.{ntypes, kind, count, kids};
-ghost use Rattle.model.specs.Tree.{Tree};
 ghost use Rattle.model.specs.Place.{index};
 ghost use Rattle.model.specs.Block.{elem-of};
-ghost use Rattle.records.specs.Here.{Coded, Here};
+ghost use Rattle.records.specs.Here.{Here};
 ghost use Rattle.type_record.specs.Sizes.{Ready};
-ghost use Rattle.walk.specs.Way.{Steps};
+ghost use Rattle.walk.specs.Way.{Steps-at};
 ghost use Rattle.walk.specs.Fresh.{folded, Bud, grows-open, grows-folded, grows};
 ghost use Rattle.walk.specs.declared.step.Opened.the-variants.{To};
+use mir::items::DEREF;
+use mir::items::DOWNCAST;
+use mir::items::FIELD;
 use state::nodes::fields_end;
 use state::nodes::wide16;
 use type_record::kinds::fielded;
@@ -25,15 +28,7 @@ use type_record::record::kind_of;
 use type_record::record::owner_of;
 use type_record::record::wide;
 
-// Item codes of elements; OPEN is what an unfold does at the node reached.
-pub const DEREF: u32 = 1;
-
-pub const FIELD: u32 = 2;
-
-pub const DOWNCAST: u32 = 3;
-
-pub const INDEX: u32 = 4;
-
+// What an unfold does at the node reached: the code of a step that no place has.
 pub const OPEN: u32 = 16;
 
 // Where a step leads.
@@ -57,7 +52,7 @@ pub fn step_open<'a>(
     requires { ⌜ typ < ntypes (now types) ⌝ }
     requires { ⌜ Here (now types) (now forms) (now whats) node typ ⌝ }
     requires { ⌜ (getD (now forms) node 0 ≡ 0 → ⊥) ⌝ }
-    ensures { λ r. ⌜ ((x : Tree) → Coded (now (types .entry)) (now (forms .entry)) (now (whats .entry)) node typ x → Steps (now (types .entry)) (now (forms .entry)) (now (whats .entry)) node (elem-of op arg) x r) ⌝ }
+    ensures { λ r. ⌜ Steps-at (was types) (was forms) (was whats) node typ (elem-of op arg) r ⌝ }
 {
     let k = kind_of(types, typ);
     let what = wide16(whats[node]);
@@ -122,7 +117,7 @@ fn into_child(types: &[u32], offs: &[u32], typ: usize, v: usize, i: usize, added
     requires { ⌜ typ < ntypes (now types) ⌝ }
     requires { ⌜ (kind (now types) typ ≡ 7 → v < count (now types) typ) ⌝ }
     requires { ⌜ i < length (kids (now types) typ v) ⌝ }
-    ensures { λ r. ⌜ r ≡ To (folded (getD (kids (now (types .entry)) typ v) i 0) added) ⌝ }
+    ensures { λ r. ⌜ r ≡ To (folded (getD (kids (was types) typ v) i 0) added) ⌝ }
 {
     Opened::To(Fresh {
         typ: kid_type(types, offs, typ, v, i),
@@ -137,7 +132,7 @@ fn step_cast(types: &[u32], offs: &[u32], at: Fresh, op: u32, arg: u32) -> Opene
     requires { ⌜ Ready (now types) (now offs) ⌝ }
     requires { ⌜ Bud (now types) at ⌝ }
     requires { ⌜ at .opened ≡ true ⌝ }
-    ensures { λ r. ⌜ r ≡ grows-open (now (types .entry)) (at .typ) (at .what) (at .added) (elem-of op arg) ⌝ }
+    ensures { λ r. ⌜ r ≡ grows-open (was types) (at .typ) (at .what) (at .added) (elem-of op arg) ⌝ }
 {
     let typ = at.typ;
     let v = at.what;
@@ -169,7 +164,7 @@ fn step_unfold(types: &[u32], offs: &[u32], typ: usize, added: usize) -> Opened
     requires { ⌜ Ready (now types) (now offs) ⌝ }
     requires { ⌜ typ < ntypes (now types) ⌝ }
     requires { ⌜ added < 4294967296 ⌝ }
-    ensures { λ r. ⌜ r ≡ grows-folded (now (types .entry)) typ added index ⌝ }
+    ensures { λ r. ⌜ r ≡ grows-folded (was types) typ added index ⌝ }
 {
     let k = kind_of(types, typ);
     if shut(k) {
@@ -191,7 +186,7 @@ pub fn step_folded(types: &[u32], offs: &[u32], at: Fresh, op: u32, arg: u32) ->
     requires { ⌜ Ready (now types) (now offs) ⌝ }
     requires { ⌜ Bud (now types) at ⌝ }
     requires { ⌜ at .added < 4294967296 ⌝ }
-    ensures { λ r. ⌜ r ≡ grows (now (types .entry)) at (elem-of op arg) ⌝ }
+    ensures { λ r. ⌜ r ≡ grows (was types) at (elem-of op arg) ⌝ }
 {
     if at.opened {
         return step_cast(types, offs, at, op, arg);

@@ -1,16 +1,31 @@
 -- `collect::collect_folds_at_ret` meets its contract: by what its tests, the collector and `finished` ensure. Assumes nothing.
 use borrow.Author.Needs.{needs}
 use Rattle.model.specs.Answer.{done}
-use Rattle.model.specs.Tree.{Forest}
 use Rattle.model.specs.Collect.{folds-at-ret}
-use Rattle.records.specs.Here.{Holds}
 use Rattle.state.specs.Value.{value}
-use Rattle.statements.proofs.Puts.{counted-start}
+use Rattle.statements.proofs.Puts.{counted-begun}
 use Rattle.input.proofs.Tested.{given-read}
+use Rattle.collect.specs.Answers.{Held}
 use Rattle.collect.proofs.Promised.{folds-promised}
 use Rattle.collect.proofs.Called.{writes-refused, writes-same, folds-untyped, folds-args, folds-state, folds-goes, puts-from, ended-puts}
 use Rattle.collect.proofs.collect_folds_at_ret.Statement.{statement}
 use Rattle.collect.proofs.collect_folds_at_ret.Tie as tie
+
+-- where the state passes it was tested, there are such arguments, the types passed, they were tested, and the call began
+abbrev given : tie.Else3 → tie.After-check-given
+given e = search
+
+abbrev within : tie.Else3 → tie.Else2
+within e = search
+
+abbrev passed : tie.Else3 → tie.Else1
+passed e = search
+
+abbrev tested : tie.Else3 → tie.After-check-locals
+tested e = search
+
+abbrev begins : tie.Else3 → tie.Start
+begins e = search
 
 slice-aggregate-check-locals : tie.Need-slice-aggregate-check-locals
 slice-aggregate-check-locals c = search needs
@@ -25,7 +40,11 @@ same-length : tie.Need-same-length
 same-length c = search needs
 
 returns : tie.Need-returns
-returns c = folds-promised _ _ _ _ _ (writes-refused (folds-untyped (c .before .before .before .before .before .before .check-locals .ensures) _ _ _ (c .before .before .before .before .if1 .taken)) (c .before .before .refused .ensures))
+returns c =
+    let k : tie.After-check-locals = search in
+    let f : tie.Then1 = search in
+    let r : tie.After-refused = search in
+    folds-promised _ _ _ _ _ (writes-refused (folds-untyped (k .check-locals .ensures) _ _ _ (f .if1 .taken)) (r .refused .ensures))
 
 refused-requires-2 : tie.Need-refused-requires-2
 refused-requires-2 c κs = search needs
@@ -34,15 +53,21 @@ same-length-2 : tie.Need-same-length-2
 same-length-2 c = search needs
 
 returns-2 : tie.Need-returns-2
-returns-2 c = folds-promised _ _ _ _ _ (writes-refused (folds-args (c .before .before .before .before .before .before .before .check-locals .ensures) _ (c .before .before .before .before .before .if1 .left) _ _ (c .before .before .before .before .if2 .taken)) (c .before .before .refused2 .ensures))
+returns-2 c =
+    let k : tie.After-check-locals = search in
+    let z : tie.Else1 = search in
+    let f : tie.Then2 = search in
+    let r : tie.After-refused2 = search in
+    folds-promised _ _ _ _ _ (writes-refused (folds-args (k .check-locals .ensures) _ (z .if1 .left) _ _ (f .if2 .taken)) (r .refused2 .ensures))
 
 slice-aggregate-check-given : tie.Need-slice-aggregate-check-given
 slice-aggregate-check-given c = search needs
 
 check-given-requires : tie.Need-check-given-requires
 check-given-requires c κs =
-    let K = c .before .before .before .before .check-locals .ensures in
-    (K .ready (c .before .before .if1 .left), K .typed (c .before .before .if1 .left))
+    let k : tie.After-check-locals = search in
+    let z : tie.Else1 = search in
+    (k .check-locals .ensures .ready (z .if1 .left), k .check-locals .ensures .typed (z .if1 .left))
 
 refused-requires-3 : tie.Need-refused-requires-3
 refused-requires-3 c κs = search needs
@@ -51,42 +76,52 @@ same-length-3 : tie.Need-same-length-3
 same-length-3 c = search needs
 
 returns-3 : tie.Need-returns-3
-returns-3 c = folds-promised _ _ _ _ _ (writes-refused (folds-state (c .before .before .before .before .before .before .before .before .before .before .check-locals .ensures) _ (c .before .before .before .before .before .before .before .before .if1 .left) _ _ (c .before .before .before .before .before .before .before .if2 .left) (c .before .before .before .before .before .check-given .ensures) (c .before .before .before .before .if3 .taken)) (c .before .before .refused3 .ensures))
+returns-3 c =
+    let r : tie.After-refused3 = search in
+    let f : tie.Then3 = search in
+    let g : tie.After-check-given = search in
+    let i : tie.Else2 = search in
+    let z : tie.Else1 = search in
+    let k : tie.After-check-locals = search in
+    let no = folds-state (k .check-locals .ensures) _ (z .if1 .left) _ _ (i .if2 .left) (g .check-given .ensures) (f .if3 .taken) in
+    folds-promised _ _ _ _ _ (writes-refused no (r .refused3 .ensures))
 
 slice-aggregate-collect-folds-at-ret : tie.Need-slice-aggregate-collect-folds-at-ret
 slice-aggregate-collect-folds-at-ret c = search needs
 
-entry-requires : tie.Need-entry-requires
-entry-requires c κs = search needs
-
-nothing-requires : tie.Need-nothing-requires
-nothing-requires c κs = search needs
+start-requires : tie.Need-start-requires
+start-requires c κs = search needs
 
 collect-folds-at-ret-requires : tie.Need-collect-folds-at-ret-requires
 collect-folds-at-ret-requires c κs =
-    let a = c .before .before .before .before .before .before .before .before .before .before .before .before .before .before .before .args in
-    let K = c .before .before .before .before .before .before .before .before .before .before .check-locals .ensures in
-    let S = given-read (a .types .now) (a .locals .now) (value (a .s)) (c .before .before .before .before .before .check-given .ensures) (c .before .before .before .before .if3 .left) in
-    let held : (D : Forest) × Holds (a .types .now) (a .locals .now) (value (a .s)) D = (S .0, S .2) in
-    (K .ready (c .before .before .before .before .before .before .before .before .if1 .left), (K .typed (c .before .before .before .before .before .before .before .before .if1 .left), (c .before .before .before .before .before .before .before .if2 .left, (held, rw (c .nothing .ensures) (counted-start _)))))
+    let e : tie.Else3 = search in
+    let S = given-read (begins e .args .types .now) (begins e .args .locals .now) (value (begins e .args .s)) (given e .check-given .ensures) (e .if3 .left) in
+    let K = tested e .check-locals .ensures in
+    let z = passed e .if1 .left in
+    let held : Held (begins e .args .types .now) (begins e .args .locals .now) (begins e .args .s) = (S .0, S .2) in
+    (K .ready z, (K .typed z, (within e .if2 .left, (held, rw (c .start .ensures) (counted-begun _)))))
 
 finished-requires : tie.Need-finished-requires
 finished-requires c κs =
-    let a = c .before .before .before .before .before .before .before .before .before .before .before .before .before .before .before .before .before .before .before .args in
-    let K = c .before .before .before .before .before .before .before .before .before .before .before .before .before .before .check-locals .ensures in
-    let S = given-read (a .types .now) (a .locals .now) (value (a .s)) (c .before .before .before .before .before .before .before .before .before .check-given .ensures) (c .before .before .before .before .before .before .before .before .if3 .left) in
-    c .before .before .before .collect-folds-at-ret .ensures (S .0) (S .2) .counted
+    let g : tie.After-collect-folds-at-ret = search in
+    let e : tie.Else3 = search in
+    let S = given-read (begins e .args .types .now) (begins e .args .locals .now) (value (begins e .args .s)) (given e .check-given .ensures) (e .if3 .left) in
+    g .collect-folds-at-ret .ensures (S .0) (S .2) .counted
 
 same-length-4 : tie.Need-same-length-4
 same-length-4 c = search needs
 
 returns-4 : tie.Need-returns-4
 returns-4 c =
-    let a = c .before .before .before .before .before .before .before .before .before .before .before .before .before .before .before .before .before .before .before .before .before .before .args in
-    let K = c .before .before .before .before .before .before .before .before .before .before .before .before .before .before .before .before .before .check-locals .ensures in
-    let S = given-read (a .types .now) (a .locals .now) (value (a .s)) (c .before .before .before .before .before .before .before .before .before .before .before .before .check-given .ensures) (c .before .before .before .before .before .before .before .before .before .before .before .if3 .left) in
-    let b = folds-at-ret (a .types .now) (a .a) (S .0) in
-    folds-promised _ _ _ _ _ (writes-same (done b) (c .before .before .before .before .before .before .collect-folds-at-ret .kept .1 .1 .1 .1 .1 .0) (folds-goes K _ (c .before .before .before .before .before .before .before .before .before .before .before .before .before .before .before .if1 .left) _ (S .1) (a .a) (c .before .before .before .before .before .before .before .before .before .before .before .before .before .before .if2 .left)) (ended-puts b (puts-from (c .before .before .before .before .before .before .before .before .entry .ensures) (c .before .before .before .before .before .before .before .nothing .ensures) b (c .before .before .before .before .before .before .collect-folds-at-ret .ensures (S .0) (S .2))) (c .before .before .finished .ensures)))
+    let r : tie.After-finished = search in
+    let g : tie.After-collect-folds-at-ret = search in
+    let o : tie.After-start = search in
+    let e : tie.Else3 = search in
+    let S = given-read (begins e .args .types .now) (begins e .args .locals .now) (value (begins e .args .s)) (given e .check-given .ensures) (e .if3 .left) in
+    let b = folds-at-ret (begins e .args .types .now) (begins e .args .a) (S .0) in
+    let goes = folds-goes (tested e .check-locals .ensures) _ (passed e .if1 .left) _ (S .1) (begins e .args .a) (within e .if2 .left) in
+    let put = puts-from (o .start .ensures) b (g .collect-folds-at-ret .ensures (S .0) (S .2)) in
+    folds-promised _ _ _ _ _ (writes-same (done b) (g .collect-folds-at-ret .kept .1 .1 .1 .1 .1 .0) goes (ended-puts b put (r .finished .ensures)))
 
 pub collect-folds-at-ret-spec : {M : Type 1} → statement M
 collect-folds-at-ret-spec =
@@ -106,8 +141,7 @@ collect-folds-at-ret-spec =
     same-length-3
     returns-3
     slice-aggregate-collect-folds-at-ret
-    entry-requires
-    nothing-requires
+    start-requires
     collect-folds-at-ret-requires
     finished-requires
     same-length-4

@@ -11,13 +11,17 @@ same-length : tie.Need-same-length
 same-length c = search needs
 
 returns : tie.Need-returns
-returns c = λ k es K l. finish-done K l (rw (c .if1 .taken) at (c .before .before .before .finish .ensures k es))
+returns c =
+    let f : tie.After-finish = search in
+    λ k es K l. finish-done K l (rw (c .if1 .taken) at (f .finish .ensures k es))
 
 same-length-2 : tie.Need-same-length-2
 same-length-2 c = search needs
 
 returns-2 : tie.Need-returns-2
-returns-2 c = λ k es K l. finish-full K l (rw (c .if1 .left) at (c .before .before .before .finish .ensures k es))
+returns-2 c =
+    let f : tie.After-finish = search in
+    λ k es K l. finish-full K l (rw (c .if1 .left) at (f .finish .ensures k es))
 
 pub finished-spec : {M : Type 1} → statement M
 finished-spec = tie.close (tie.spec finish-requires same-length returns same-length-2 returns-2)

@@ -1,10 +1,6 @@
 -- `env::projection` meets its contract: a test stops it, or it is done. Assumes nothing.
 use borrow.Author.Needs.{needs}
-use borrow.Author.Tests.{not-true, not-false}
-use mathlib.Core.Path.{sym, _∙_}
-use lib.ListN.{length}
-use Rattle.model.specs.Place.{used-ok}
-use Rattle.env.proofs.Called.{projection-promised, tested-locals, tested-spotted, tested-given, projection-stops, projection-barred, projection-goes}
+use Rattle.env.proofs.Called.{tested-input, projection-stops, projection-goes}
 use Rattle.env.proofs.projection.Statement.{statement}
 use Rattle.env.proofs.projection.Tie as tie
 
@@ -15,13 +11,7 @@ check-use-requires : tie.Need-check-use-requires
 check-use-requires c κs = search needs
 
 returns : tie.Need-returns
-returns c = projection-promised _ _ _ _ _ (projection-stops (c .before .before .check-use .ensures) (c .if1 .taken))
-
-used-ok-requires : tie.Need-used-ok-requires
-used-ok-requires c κs = tested-spotted (c .before .before .check-use .ensures) (c .if1 .left)
-
-returns-2 : tie.Need-returns-2
-returns-2 c = projection-promised _ _ _ _ _ (projection-barred (c .before .before .before .before .check-use .ensures) (c .before .before .if1 .left) (λ q e. sym (c .before .used-ok .ensures q e) ∙ not-true (c .before .used-ok .result) (c .if2 .taken)))
+returns c = let t : tie.After-check-use = search in projection-stops _ _ _ _ _ (t .check-use .ensures) (c .if1 .taken)
 
 slice-aggregate-projection : tie.Need-slice-aggregate-projection
 slice-aggregate-projection c = search needs
@@ -34,15 +24,16 @@ slice-aggregate-projection-3 c = search needs
 
 projection-requires : tie.Need-projection-requires
 projection-requires c κs =
-    let s = c .before .before .before .before .before .before .before .before .before .before .before .before .before .before .before .args in
-    let T = c .before .before .before .before .before .before .before .before .before .check-use .ensures in
-    let z = c .before .before .before .before .before .before .before .if1 .left in
-    (T .ready z, (tested-locals T z, tested-given T z (used-ok (length (s .locals .now))) (λ q e. sym (c .before .before .before .before .before .before .used-ok .ensures q e) ∙ not-false (c .before .before .before .before .before .before .used-ok .result) (c .before .before .before .before .before .if2 .left))))
+    let t : tie.After-check-use = search in
+    let z : tie.Else1 = search in
+    tested-input (t .check-use .ensures) (z .if1 .left)
 
-returns-3 : tie.Need-returns-3
-returns-3 c =
-    projection-promised _ _ _ _ _ (projection-goes (c .before .before .before .before .before .before .before .before .before .before .before .before .check-use .ensures) (c .before .before .before .before .before .before .before .before .before .before .if1 .left)
-    (λ q e. sym (c .before .before .before .before .before .before .before .before .before .used-ok .ensures q e) ∙ not-false (c .before .before .before .before .before .before .before .before .before .used-ok .result) (c .before .before .before .before .before .before .before .before .if2 .left)) (c .before .before .projection .ensures))
+returns-2 : tie.Need-returns-2
+returns-2 c =
+    let t : tie.After-check-use = search in
+    let z : tie.Else1 = search in
+    let d : tie.After-projection = search in
+    projection-goes _ _ _ _ _ (t .check-use .ensures) (z .if1 .left) (d .projection .ensures)
 
 pub projection-spec : {M : Type 1} → statement M
 projection-spec =
@@ -51,10 +42,8 @@ projection-spec =
     slice-aggregate-check-use
     check-use-requires
     returns
-    used-ok-requires
-    returns-2
     slice-aggregate-projection
     slice-aggregate-projection-2
     slice-aggregate-projection-3
     projection-requires
-    returns-3)
+    returns-2)

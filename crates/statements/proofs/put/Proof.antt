@@ -10,12 +10,18 @@ use Rattle.statements.proofs.put.Tie as tie
 room-requires : tie.Need-room-requires
 room-requires c κs = search needs
 
-add-t9 : tie.Need-add-t9
+add-counts : tie.Need-add-counts
 unfolding room
-add-t9 c = omega arith
+add-counts c = omega arith
+
+counts-requires : tie.Need-counts-requires
+counts-requires c κs = search needs
 
 returns : tie.Need-returns
-returns c = puts-full (c .before .room .result) _ _ (c .before .before .before .pre) (c .before .room .ensures) (c .if1 .taken)
+returns c =
+    let asked : tie.After-room = search in
+    let start : tie.Start = search in
+    rw (c .counts .ensures) (puts-full (asked .room .result) _ _ (start .pre) (asked .room .ensures) (c .before .if1 .taken))
 
 add-out : tie.Need-add-out
 unfolding room
@@ -45,21 +51,28 @@ slice-write-out-2 : tie.Need-slice-write-out-2
 unfolding room
 slice-write-out-2 c = simp length-set (omega arith)
 
-add-t10 : tie.Need-add-t10
-add-t10 c = search needs
+add-counts-2 : tie.Need-add-counts-2
+add-counts-2 c = search needs
+
+counts-requires-2 : tie.Need-counts-requires-2
+counts-requires-2 c κs = search needs
 
 same-length : tie.Need-same-length
 same-length c = search needs
 
 returns-2 : tie.Need-returns-2
-returns-2 c = puts-one (c .before .room .result) _ _ (c .before .before .before .pre) (c .before .room .ensures) (c .if1 .left)
+returns-2 c =
+    let asked : tie.After-room = search in
+    let start : tie.Start = search in
+    rw (c .counts2 .ensures) (puts-one (asked .room .result) _ _ (start .pre) (asked .room .ensures) (c .before .if1 .left))
 
 pub put-spec : {M : Type 1} → statement M
 put-spec =
     tie.close
     (tie.spec
     room-requires
-    add-t9
+    add-counts
+    counts-requires
     returns
     add-out
     mul-out
@@ -68,6 +81,7 @@ put-spec =
     add-out-3
     mul-out-2
     slice-write-out-2
-    add-t10
+    add-counts-2
+    counts-requires-2
     same-length
     returns-2)

@@ -1,6 +1,6 @@
 -- `statements::record` meets its contract: its entries are put, and if they fit they are one statement more. Assumes nothing.
 use borrow.Author.Needs.{needs}
-use mathlib.Core.Path.{_≡_}
+use mathlib.Core.Path.{_≡_, refl}
 use native.Mathlib.Omega.{arith}
 use lib.ListN.{length}
 use Rattle.statements.specs.Kept.{room}
@@ -21,33 +21,47 @@ put-items-requires c κs = search needs
 room-requires : tie.Need-room-requires
 room-requires c κs = search needs
 
+counts-requires : tie.Need-counts-requires
+counts-requires c κs = search needs
+
 same-length : tie.Need-same-length
 same-length c = search needs
 
 returns : tie.Need-returns
 returns c =
-    let I = c .before .before .before .before .before in
-    let S = I .before .before .before .before in
-    let O = S .before .before .before .before in
-    let P = puts-then (puts-then (O .put .ensures) (S .put2 .ensures)) (I .put-items .ensures) in
-    let e : c .before .before .room .result ≡ room (length (I .put-items .last .0)) = c .before .before .room .ensures in
-    puts-lost (O .before .before .before .before .before .pre .0) P (omega arith)
+    let asked : tie.After-room = search in
+    let items : tie.After-put-items = search in
+    let second : tie.After-put2 = search in
+    let first : tie.After-put = search in
+    let start : tie.Start = search in
+    let P = puts-then (puts-then (first .put .ensures) (second .put2 .ensures)) (items .put-items .ensures) in
+    let e : asked .room .result ≡ room (length (items .put-items .last .0)) = asked .room .ensures in
+    rw (c .counts .ensures) (puts-lost (start .pre .0) P (omega arith), refl)
 
-add-t18 : tie.Need-add-t18
+add-counts : tie.Need-add-counts
 unfolding room
-add-t18 c = omega (arith, c .before .before .before .before .before .before .before .before .before .before .before .before .before .before .before .before .before .before .before .pre .0)
+add-counts c =
+    let items : tie.After-put-items = search in
+    let first : tie.After-put = search in
+    let start : tie.Start = search in
+    omega (arith, start .pre .0)
+
+counts-requires-2 : tie.Need-counts-requires-2
+counts-requires-2 c κs = search needs
 
 same-length-2 : tie.Need-same-length-2
 same-length-2 c = search needs
 
 returns-2 : tie.Need-returns-2
 returns-2 c =
-    let I = c .before .before .before .before .before .before in
-    let S = I .before .before .before .before in
-    let O = S .before .before .before .before in
-    let P = puts-then (puts-then (O .put .ensures) (S .put2 .ensures)) (I .put-items .ensures) in
-    let e : c .before .before .before .room .result ≡ room (length (I .put-items .last .0)) = c .before .before .before .room .ensures in
-    puts-statement (O .before .before .before .before .before .pre .0) P (omega arith) (omega arith)
+    let asked : tie.After-room = search in
+    let items : tie.After-put-items = search in
+    let second : tie.After-put2 = search in
+    let first : tie.After-put = search in
+    let start : tie.Start = search in
+    let P = puts-then (puts-then (first .put .ensures) (second .put2 .ensures)) (items .put-items .ensures) in
+    let e : asked .room .result ≡ room (length (items .put-items .last .0)) = asked .room .ensures in
+    rw (c .counts2 .ensures) (puts-statement (start .pre .0) P (omega arith) (omega arith), refl)
 
 pub record-spec : {M : Type 1} → statement M
 record-spec =
@@ -57,8 +71,10 @@ record-spec =
     put-requires-2
     put-items-requires
     room-requires
+    counts-requires
     same-length
     returns
-    add-t18
+    add-counts
+    counts-requires-2
     same-length-2
     returns-2)

@@ -61,7 +61,9 @@ nitems-requires : tie.Need-nitems-requires Inv-loop μ-loop
 nitems-requires c κs = search needs
 
 loop-holds : tie.Need-loop-holds Inv-loop μ-loop
-loop-holds c = (omega arith, refl, counted-none _ (c .before .before .before .args .counts .now) (c .before .before .before .pre .1 .1))
+loop-holds c =
+    let start : tie.Start Inv-loop μ-loop = search in
+    (omega arith, refl, counted-none _ (start .args .counts .now) (start .pre .1 .1))
 
 op-of-requires : tie.Need-op-of-requires Inv-loop μ-loop
 op-of-requires c κs = search needs
@@ -75,20 +77,31 @@ wide-requires c κs = search needs
 -- the target names a block, whose count is small
 named : (c : tie.After-wide Inv-loop μ-loop) → c .wide .result < nblocks (c .before .before .before .before .before .before .before .before .before .args .fun .now)
 named c =
-    let L = c .before .before .before .before .before .loop in
-    let f = c .before .before .before .op-of in
-    let t = target-block (c .before .before .before .before .before .before .before .before .before .pre .0) {i = L .i} (omega arith) (sym (f .ensures) ∙ c .before .before .if1 .taken) in
+    let then1 : tie.Then1 Inv-loop μ-loop = search in
+    let op-of′ : tie.After-op-of Inv-loop μ-loop = search in
+    let loop′ : tie.At-loop Inv-loop μ-loop = search in
+    let start : tie.Start Inv-loop μ-loop = search in
+    let L = loop′ .loop in
+    let f = op-of′ .op-of in
+    let t = target-block (start .pre .0) {i = L .i} (omega arith) (sym (f .ensures) ∙ then1 .if1 .taken) in
     omega (arith, c .wide .ensures, c .before .arg-of .ensures)
 
 mul-k : tie.Need-mul-k Inv-loop μ-loop
-mul-k c = omega (arith, named c, c .before .before .before .before .before .before .before .before .before .pre)
+mul-k c =
+    let start : tie.Start Inv-loop μ-loop = search in
+    omega (arith, named c, start .pre)
 
 slice-read-k : tie.Need-slice-read-k Inv-loop μ-loop
-slice-read-k c = omega (arith, named (c .before), c .before .before .before .before .before .before .before .before .before .before .pre)
+slice-read-k c =
+    let start : tie.Start Inv-loop μ-loop = search in
+    omega (arith, named (c .before), start .pre)
 
 add-counts : tie.Need-add-counts Inv-loop μ-loop
-add-counts c = let L = c .before .before .before .before .before .before .loop in
-    omega (arith, counted-most _ (L .counts) (L .i) (L .inv .2) (c .before .wide .result) (named (c .before)), c .before .before .before .before .before .before .before .before .before .before .pre)
+add-counts c =
+    let loop′ : tie.At-loop Inv-loop μ-loop = search in
+    let start : tie.Start Inv-loop μ-loop = search in
+    let L = loop′ .loop in
+    omega (arith, counted-most _ (L .counts) (L .i) (L .inv .2) (c .before .wide .result) (named (c .before)), start .pre)
 
 mul-counts : tie.Need-mul-counts Inv-loop μ-loop
 mul-counts c = mul-k (c .before)
@@ -104,7 +117,8 @@ loop-less c = search needs
 
 loop-again : tie.Need-loop-again Inv-loop μ-loop
 loop-again c =
-    let L = c .before .before .before .loop in
+    let loop′ : tie.At-loop Inv-loop μ-loop = search in
+    let L = loop′ .loop in
     let f = c .before .op-of in
     ⊎-elim
     (λ w.

@@ -72,20 +72,29 @@ abbrev μ-loop : tie.MeasureT-loop
 μ-loop fun points₀ n k₀ b₀ points k b = n - b
 
 count-incoming-requires : tie.Need-count-incoming-requires Inv-loop μ-loop
-count-incoming-requires c κs = c .before .before .before .pre
+count-incoming-requires c κs =
+    let start : tie.Start Inv-loop μ-loop = search in
+    start .pre
 
 nblocks-requires : tie.Need-nblocks-requires Inv-loop μ-loop
 nblocks-requires c κs = search needs
 
 loop-holds : tie.Need-loop-holds Inv-loop μ-loop
-loop-holds c = (omega arith, refl, numbered-none _ (c .before .before .before .count-incoming .last .1 .0) (c .before .before .before .count-incoming .ensures .1))
+loop-holds c =
+    let count-incoming′ : tie.After-count-incoming Inv-loop μ-loop = search in
+    (omega arith, refl, numbered-none _ (count-incoming′ .count-incoming .last .1 .0) (count-incoming′ .count-incoming .ensures .1))
 
 -- the block has a word
 fits : (c : tie.In-loop Inv-loop μ-loop) → c .before .loop .b < length (c .before .loop .points)
-fits c = omega (arith, c .before .loop .inv .1, c .before .before .before .before .before .count-incoming .ensures .0, c .before .before .before .before .before .before .before .before .before .pre)
+fits c =
+    let count-incoming′ : tie.After-count-incoming Inv-loop μ-loop = search in
+    let start : tie.Start Inv-loop μ-loop = search in
+    omega (arith, c .before .loop .inv .1, count-incoming′ .count-incoming .ensures .0, start .pre)
 
 mul-is-join : tie.Need-mul-is-join Inv-loop μ-loop
-mul-is-join c = omega (arith, c .before .before .before .before .before .before .before .before .before .pre)
+mul-is-join c =
+    let start : tie.Start Inv-loop μ-loop = search in
+    omega (arith, start .pre)
 
 slice-read-is-join : tie.Need-slice-read-is-join Inv-loop μ-loop
 slice-read-is-join c = fits (c .before)
@@ -94,31 +103,46 @@ is-join-requires : tie.Need-is-join-requires Inv-loop μ-loop
 is-join-requires c κs = tt
 
 add-k : tie.Need-add-k Inv-loop μ-loop
-add-k c = let L = c .before .before .before .before .loop in omega (arith, numbered-most _ (L .points) (L .k) (L .b) (L .inv .2), c .before .before .before .before .before .before .before .before .before .before .before .before .pre)
+add-k c =
+    let loop′ : tie.At-loop Inv-loop μ-loop = search in
+    let start : tie.Start Inv-loop μ-loop = search in
+    let L = loop′ .loop in omega (arith, numbered-most _ (L .points) (L .k) (L .b) (L .inv .2), start .pre)
 
 mul-points : tie.Need-mul-points Inv-loop μ-loop
-mul-points c = mul-is-join (c .before .before .before)
+mul-points c =
+    let in-loop : tie.In-loop Inv-loop μ-loop = search in
+    mul-is-join (in-loop)
 
 slice-write-points : tie.Need-slice-write-points Inv-loop μ-loop
-slice-write-points c = fits (c .before .before .before)
+slice-write-points c =
+    let in-loop : tie.In-loop Inv-loop μ-loop = search in
+    fits (in-loop)
 
 mul-points-2 : tie.Need-mul-points-2 Inv-loop μ-loop
-mul-points-2 c = mul-is-join (c .before .before .before)
+mul-points-2 c =
+    let in-loop : tie.In-loop Inv-loop μ-loop = search in
+    mul-is-join (in-loop)
 
 slice-write-points-2 : tie.Need-slice-write-points-2 Inv-loop μ-loop
-slice-write-points-2 c = fits (c .before .before .before)
+slice-write-points-2 c =
+    let in-loop : tie.In-loop Inv-loop μ-loop = search in
+    fits (in-loop)
 
 add-b : tie.Need-add-b Inv-loop μ-loop
-add-b c = omega (arith, c .before .before .before .before .before .before .before .before .before .before .before .before .pre)
+add-b c =
+    let start : tie.Start Inv-loop μ-loop = search in
+    omega (arith, start .pre)
 
 loop-less : tie.Need-loop-less Inv-loop μ-loop
 loop-less c = search needs
 
 loop-again : tie.Need-loop-again Inv-loop μ-loop
 loop-again c =
-    let L = c .before .before .before .before .loop in
+    let in-loop : tie.In-loop Inv-loop μ-loop = search in
+    let loop′ : tie.At-loop Inv-loop μ-loop = search in
+    let L = loop′ .loop in
     let f = c .before .is-join in
-    let m = fits (c .before .before .before) in
+    let m = fits (in-loop) in
     ⊎-elim
     (λ w. (
       omega arith,
@@ -136,11 +160,15 @@ wide-requires : tie.Need-wide-requires Inv-loop μ-loop
 wide-requires c κs = tt
 
 same-length : tie.Need-same-length Inv-loop μ-loop
-same-length c = c .before .before .loop .inv .1 ∙ c .before .before .before .before .before .before .count-incoming .ensures .0
+same-length c =
+    let loop′ : tie.At-loop Inv-loop μ-loop = search in
+    let count-incoming′ : tie.After-count-incoming Inv-loop μ-loop = search in
+    loop′ .loop .inv .1 ∙ count-incoming′ .count-incoming .ensures .0
 
 returns : tie.Need-returns Inv-loop μ-loop
 returns c =
-    let L = c .before .before .loop in
+    let loop′ : tie.At-loop Inv-loop μ-loop = search in
+    let L = loop′ .loop in
     (c .wide .ensures ∙ numbered-count _ (L .points) (L .k) (L .b) (L .inv .2) (omega arith), (same-length c, λ b l. L .inv .2 .done b (omega arith)))
 
 pub fill-join-points-spec : {M : Type 1} → statement M

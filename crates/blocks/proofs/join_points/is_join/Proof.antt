@@ -21,10 +21,14 @@ returns : tie.Need-returns
 returns c = several (c .before .args .n) (c .before .args .b) (c .if1 .taken)
 
 returns-2 : tie.Need-returns-2
-returns-2 c = let a = c .before .before .args in start (a .n) (a .b) (c .before .if1 .left) (c .if2 .taken)
+returns-2 c =
+    let start′ : tie.Start = search in
+    let a = start′ .args in start (a .n) (a .b) (c .before .if1 .left) (c .if2 .taken)
 
 returns-3 : tie.Need-returns-3
-returns-3 c = let a = c .before .before .args in other (a .n) (a .b) (c .before .if1 .left) (c .if2 .left)
+returns-3 c =
+    let start : tie.Start = search in
+    let a = start .args in other (a .n) (a .b) (c .before .if1 .left) (c .if2 .left)
 
 pub is-join-spec : {M : Type 1} → statement M
 is-join-spec = tie.close (tie.spec returns returns-2 returns-3)

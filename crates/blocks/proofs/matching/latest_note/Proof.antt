@@ -75,10 +75,13 @@ op-of-requires c κs = search needs
 
 same-place-requires : tie.Need-same-place-requires Inv-loop μ-loop
 same-place-requires c κs =
-    let s = c .before .before .before .before .before .before in
-    let L = c .before .before .before .loop in
+    let loop′ : tie.At-loop Inv-loop μ-loop = search in
+    let root-before′ : tie.After-root-before Inv-loop μ-loop = search in
+    let start : tie.Start Inv-loop μ-loop = search in
+    let s = start in
+    let L = loop′ .loop in
     let l : L .j - 1 < nitems (s .args .fun .now) = omega arith in
-    (s .pre .0, ((l, s .pre .1 .0 .1), ((note-uses (s .pre .0) l (sym (c .before .op-of .ensures) ∙ c .if1 .taken), s .pre .1 .1), c .before .before .before .before .root-before .ensures)))
+    (s .pre .0, ((l, s .pre .1 .0 .1), ((note-uses (s .pre .0) l (sym (c .before .op-of .ensures) ∙ c .if1 .taken), s .pre .1 .1), root-before′ .root-before .ensures)))
 
 -- the test of the item before j
 judged : (c : tie.After-same-place Inv-loop μ-loop)
@@ -90,25 +93,31 @@ judged c =
 
 returns : tie.Need-returns Inv-loop μ-loop
 returns c =
-    let L = c .before .before .before .before .before .loop in
-    here _ _ _ _ (L .j) (L .inv .2) (c .before .before .before .before .loop-test .taken) (judged (c .before) ∙ c .if2 .taken)
+    let in-loop : tie.In-loop Inv-loop μ-loop = search in
+    let loop′ : tie.At-loop Inv-loop μ-loop = search in
+    let L = loop′ .loop in
+    here _ _ _ _ (L .j) (L .inv .2) (in-loop .loop-test .taken) (judged (c .before) ∙ c .if2 .taken)
 
 loop-less : tie.Need-loop-less Inv-loop μ-loop
 loop-less c = search needs
 
 loop-again : tie.Need-loop-again Inv-loop μ-loop
 loop-again c =
-    let L = c .before .before .before .before .before .loop in
-    (omega arith, omega arith, past _ _ _ _ (L .j) (L .inv .2) (c .before .before .before .before .loop-test .taken) (judged (c .before) ∙ c .if2 .left))
+    let in-loop : tie.In-loop Inv-loop μ-loop = search in
+    let loop′ : tie.At-loop Inv-loop μ-loop = search in
+    let L = loop′ .loop in
+    (omega arith, omega arith, past _ _ _ _ (L .j) (L .inv .2) (in-loop .loop-test .taken) (judged (c .before) ∙ c .if2 .left))
 
 loop-less-2 : tie.Need-loop-less-2 Inv-loop μ-loop
 loop-less-2 c = search needs
 
 loop-again-2 : tie.Need-loop-again-2 Inv-loop μ-loop
 loop-again-2 c =
-    let L = c .before .before .before .loop in
+    let in-loop : tie.In-loop Inv-loop μ-loop = search in
+    let loop′ : tie.At-loop Inv-loop μ-loop = search in
+    let L = loop′ .loop in
     let f = c .before .op-of in
-    (omega arith, omega arith, past _ _ _ _ (L .j) (L .inv .2) (c .before .before .loop-test .taken) (no-note _ _ _ (f .result) (f .ensures) (c .if1 .left)))
+    (omega arith, omega arith, past _ _ _ _ (L .j) (L .inv .2) (in-loop .loop-test .taken) (no-note _ _ _ (f .result) (f .ensures) (c .if1 .left)))
 
 returns-2 : tie.Need-returns-2 Inv-loop μ-loop
 returns-2 c = let L = c .before .loop in none-left _ _ _ _ (L .j) (L .inv .2) (c .loop-test .left)

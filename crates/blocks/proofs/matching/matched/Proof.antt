@@ -81,18 +81,26 @@ enum-told : tie.Need-enum-told
 enum-told c = search needs
 
 returns : tie.Need-returns
-returns c = no-switch _ _ (sym (c .before .before .switch-of .ensures) ∙ c .enum-told .given .1)
+returns c =
+    let switch-of′ : tie.After-switch-of = search in
+    no-switch _ _ (sym (switch-of′ .switch-of .ensures) ∙ c .enum-told .given .1)
 
 switched : (c : tie.After-known-told) → Switch (c .before .before .before .before .before .args .fun .now) (c .before .before .before .before .before .args .b) (c .before .found .given .0 .0)
 switched c =
-    let s = c .before .before .before .before .before in
-    record { formed = s .pre .0; block = s .pre .1; is = item-some _ (c .before .found .given .0 .0) (sym (c .before .before .before .switch-of .ensures) ∙ c .before .found .given .1) }
+    let switch-of′ : tie.After-switch-of = search in
+    let start : tie.Start = search in
+    let s = start in
+    record { formed = s .pre .0; block = s .pre .1; is = item-some _ (c .before .found .given .0 .0) (sym (switch-of′ .switch-of .ensures) ∙ c .before .found .given .1) }
 
 uses-place-requires : tie.Need-uses-place-requires
-uses-place-requires c κs = (c .before .before .before .before .before .pre .0 .laid, below (switched c))
+uses-place-requires c κs =
+    let start : tie.Start = search in
+    (start .pre .0 .laid, below (switched c))
 
 returns-2 : tie.Need-returns-2
-returns-2 c = let u = c .before .uses-place in bare (switched (c .before .before)) (sym (u .ensures) ∙ not-true (u .result) (c .if1 .taken))
+returns-2 c =
+    let known-told : tie.After-known-told = search in
+    let u = c .before .uses-place in bare (switched (known-told)) (sym (u .ensures) ∙ not-true (u .result) (c .if1 .taken))
 
 start-of-requires : tie.Need-start-of-requires
 start-of-requires c κs = search needs
@@ -102,7 +110,8 @@ used c = let u = c .before .uses-place in sym (u .ensures) ∙ not-false (u .res
 
 latest-note-requires : tie.Need-latest-note-requires
 latest-note-requires c κs =
-    let S = switched (c .before .before .before) in
+    let known-told : tie.After-known-told = search in
+    let S = switched (known-told) in
     (S .formed, ((omega (arith, c .start-of .ensures, holds S .low), below S), used (c .before)))
 
 enum-known-noted : tie.Need-enum-known-noted
@@ -113,16 +122,26 @@ enum-told-2 c = search needs
 
 returns-3 : tie.Need-returns-3
 returns-3 c =
-    let d = c .before .before .before .start-of in
-    plain (switched (c .before .before .before .before .before .before)) (used (c .before .before .before .before)) (d .result) (d .ensures) (sym (c .before .before .latest-note .ensures) ∙ c .enum-told2 .given .1)
+    let latest-note′ : tie.After-latest-note = search in
+    let start-of′ : tie.After-start-of = search in
+    let else1 : tie.Else1 = search in
+    let known-told : tie.After-known-told = search in
+    let d = start-of′ .start-of in
+    plain (switched (known-told)) (used (else1)) (d .result) (d .ensures) (sym (latest-note′ .latest-note .ensures) ∙ c .enum-told2 .given .1)
 
 noted : (c : tie.After-known-told2) → Note (c .before .before .before .before .before .before .before .before .before .before .before .before .args .fun .now) (c .before .before .before .before .before .before .before .before .before .before .before .before .args .b) (c .before .noted .given .0 .0)
 noted c =
-    let d = c .before .before .before .before .start-of in
-    note (switched (c .before .before .before .before .before .before .before)) (used (c .before .before .before .before .before)) (d .result) (c .before .noted .given .0 .0) (d .ensures) (sym (c .before .before .before .latest-note .ensures) ∙ c .before .noted .given .1)
+    let latest-note′ : tie.After-latest-note = search in
+    let start-of′ : tie.After-start-of = search in
+    let else1 : tie.Else1 = search in
+    let known-told : tie.After-known-told = search in
+    let d = start-of′ .start-of in
+    note (switched (known-told)) (used (else1)) (d .result) (c .before .noted .given .0 .0) (d .ensures) (sym (latest-note′ .latest-note .ensures) ∙ c .before .noted .given .1)
 
 root-before-requires : tie.Need-root-before-requires
-root-before-requires c κs = (c .before .before .before .before .before .before .before .before .before .before .before .before .pre .0 .laid, omega (arith, note-below (noted c)))
+root-before-requires c κs =
+    let start : tie.Start = search in
+    (start .pre .0 .laid, omega (arith, note-below (noted c)))
 
 sub-t10 : tie.Need-sub-t10
 sub-t10 c = omega (arith, c .root-before .ensures, behind-read (noted (c .before)))

@@ -50,9 +50,11 @@ op-of-requires-2 c κs = search needs
 
 returns : tie.Need-returns Inv-loop μ-loop
 returns c =
-    let f = c .before .before .op-of in
+    let op-of′ : tie.After-op-of Inv-loop μ-loop = search in
+    let loop′ : tie.At-loop Inv-loop μ-loop = search in
+    let f = op-of′ .op-of in
     let g = c .before .op-of2 in
-    let L = c .before .before .before .before .loop in
+    let L = loop′ .loop in
     differ _ _ _ _ (L .k) (omega arith) (ops-differ _ _ _ (L .k) (f .result) (g .result) (f .ensures) (g .ensures) (c .if1 .taken))
 
 add-arg-of : tie.Need-add-arg-of Inv-loop μ-loop
@@ -69,11 +71,15 @@ arg-of-requires-2 c κs = search needs
 
 returns-2 : tie.Need-returns-2 Inv-loop μ-loop
 returns-2 c =
-    let f = c .before .before .before .before .before .op-of in
-    let g = c .before .before .before .before .op-of2 in
-    let x = c .before .before .arg-of in
+    let arg-of′ : tie.After-arg-of Inv-loop μ-loop = search in
+    let op-of2′ : tie.After-op-of2 Inv-loop μ-loop = search in
+    let op-of′ : tie.After-op-of Inv-loop μ-loop = search in
+    let loop′ : tie.At-loop Inv-loop μ-loop = search in
+    let f = op-of′ .op-of in
+    let g = op-of2′ .op-of2 in
+    let x = arg-of′ .arg-of in
     let y = c .before .arg-of2 in
-    let L = c .before .before .before .before .before .before .before .loop in
+    let L = loop′ .loop in
     differ _ _ _ _ (L .k) (omega arith)
     (args-differ _ _ _ (L .k) (f .result) (g .result) (f .ensures) (g .ensures) (x .result) (y .result) (x .ensures) (y .ensures) (c .if2 .taken))
 
@@ -85,14 +91,19 @@ loop-less c = search needs
 
 loop-again : tie.Need-loop-again Inv-loop μ-loop
 loop-again c =
-    let f = c .before .before .before .before .before .op-of in
-    let g = c .before .before .before .before .op-of2 in
-    let x = c .before .before .arg-of in
+    let arg-of′ : tie.After-arg-of Inv-loop μ-loop = search in
+    let else1 : tie.Else1 Inv-loop μ-loop = search in
+    let op-of2′ : tie.After-op-of2 Inv-loop μ-loop = search in
+    let op-of′ : tie.After-op-of Inv-loop μ-loop = search in
+    let loop′ : tie.At-loop Inv-loop μ-loop = search in
+    let f = op-of′ .op-of in
+    let g = op-of2′ .op-of2 in
+    let x = arg-of′ .arg-of in
     let y = c .before .arg-of2 in
-    let L = c .before .before .before .before .before .before .before .loop in (
+    let L = loop′ .loop in (
       omega arith,
       below-more _ (L .k) (L .inv .1)
-          (same _ _ _ (L .k) (f .result) (g .result) (f .ensures) (g .ensures) (x .result) (y .result) (x .ensures) (y .ensures) (c .before .before .before .if1 .left) (c .if2 .left)),
+          (same _ _ _ (L .k) (f .result) (g .result) (f .ensures) (g .ensures) (x .result) (y .result) (x .ensures) (y .ensures) (else1 .if1 .left) (c .if2 .left)),
     )
 
 returns-3 : tie.Need-returns-3 Inv-loop μ-loop

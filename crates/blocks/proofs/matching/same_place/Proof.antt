@@ -35,19 +35,22 @@ root-before-requires c κs = search needs
 
 sub-if1 : tie.Need-sub-if1
 sub-if1 c =
-    let p = c .before .before .pre in
+    let start : tie.Start = search in
+    let p = start .pre in
     let g = c .root-before in
     omega (arith, low (p .0) _ _ (g .result) _ (p .1 .0) (p .1 .1 .0) (g .ensures) (p .1 .1 .1))
 
 sub-if1-2 : tie.Need-sub-if1-2
 sub-if1-2 c =
-    let p = c .before .before .pre in
+    let start : tie.Start = search in
+    let p = start .pre in
     let g = c .root-before in
     omega (arith, low-2 (p .0) _ _ (g .result) _ (p .1 .0) (p .1 .1 .0) (g .ensures) (p .1 .1 .1))
 
 returns : tie.Need-returns
 returns c =
-    let p = c .before .before .before .pre in
+    let start : tie.Start = search in
+    let p = start .pre in
     let g = c .before .root-before in
     uneven (p .0) _ _ (g .result) _ (p .1 .0) (p .1 .1 .0) (g .ensures) (p .1 .1 .1) (c .if1 .taken)
 
@@ -55,12 +58,16 @@ sub-same-items : tie.Need-sub-same-items
 sub-same-items c = sub-if1-2 (c .before)
 
 same-items-requires : tie.Need-same-items-requires
-same-items-requires c κs = (c .before .before .before .pre .0 .laid, omega (arith, sub-if1 (c .before), sub-if1-2 (c .before), c .if1 .left, c .before .before .before .pre .1 .0))
+same-items-requires c κs =
+    let start : tie.Start = search in
+    (start .pre .0 .laid, omega (arith, sub-if1 (c .before), sub-if1-2 (c .before), c .if1 .left, start .pre .1 .0))
 
 returns-2 : tie.Need-returns-2
 returns-2 c =
-    let p = c .before .before .before .before .pre in
-    let g = c .before .before .root-before in
+    let root-before′ : tie.After-root-before = search in
+    let start : tie.Start = search in
+    let p = start .pre in
+    let g = root-before′ .root-before in
     decided (p .0) _ _ (g .result) _ (p .1 .0) (p .1 .1 .0) (g .ensures) (p .1 .1 .1) (c .before .if1 .left) (c .same-items .result) (c .same-items .ensures)
 
 pub same-place-spec : {M : Type 1} → statement M

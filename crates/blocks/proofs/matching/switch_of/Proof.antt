@@ -68,28 +68,36 @@ loop-holds c = from-start _ _ (c .before .stop-of .result) (c .start-of .result)
 
 op-of-requires : tie.Need-op-of-requires Inv-loop μ-loop
 op-of-requires c κs =
-    let s = c .before .before .before .before .before in
-    (s .pre .0 .laid, omega (arith, c .before .before .before .stop-of .ensures, block-stop (s .pre .0) (s .pre .1)))
+    let stop-of′ : tie.After-stop-of Inv-loop μ-loop = search in
+    let start : tie.Start Inv-loop μ-loop = search in
+    let s = start in
+    (s .pre .0 .laid, omega (arith, stop-of′ .stop-of .ensures, block-stop (s .pre .0) (s .pre .1)))
 
 returns : tie.Need-returns Inv-loop μ-loop
 returns c =
-    let L = c .before .before .before .loop in
+    let in-loop : tie.In-loop Inv-loop μ-loop = search in
+    let loop′ : tie.At-loop Inv-loop μ-loop = search in
+    let L = loop′ .loop in
     let f = c .before .op-of in
-    found _ _ _ (L .i) (L .inv) (c .before .before .loop-test .taken) (f .result) (f .ensures) (c .if1 .taken)
+    found _ _ _ (L .i) (L .inv) (in-loop .loop-test .taken) (f .result) (f .ensures) (c .if1 .taken)
 
 add-i : tie.Need-add-i Inv-loop μ-loop
 add-i c =
-    let s = c .before .before .before .before .before .before .before in
-    omega (arith, c .before .before .before .before .before .stop-of .ensures, block-stop (s .pre .0) (s .pre .1), s .pre .0)
+    let stop-of′ : tie.After-stop-of Inv-loop μ-loop = search in
+    let start : tie.Start Inv-loop μ-loop = search in
+    let s = start in
+    omega (arith, stop-of′ .stop-of .ensures, block-stop (s .pre .0) (s .pre .1), s .pre .0)
 
 loop-less : tie.Need-loop-less Inv-loop μ-loop
 loop-less c = search needs
 
 loop-again : tie.Need-loop-again Inv-loop μ-loop
 loop-again c =
-    let L = c .before .before .before .loop in
+    let in-loop : tie.In-loop Inv-loop μ-loop = search in
+    let loop′ : tie.At-loop Inv-loop μ-loop = search in
+    let L = loop′ .loop in
     let f = c .before .op-of in
-    onward _ _ _ (L .i) (L .inv) (c .before .before .loop-test .taken) (f .result) (f .ensures) (c .if1 .left)
+    onward _ _ _ (L .i) (L .inv) (in-loop .loop-test .taken) (f .result) (f .ensures) (c .if1 .left)
 
 returns-2 : tie.Need-returns-2 Inv-loop μ-loop
 returns-2 c = none-left _ _ _ (c .before .loop .i) (c .before .loop .inv) (c .loop-test .left)

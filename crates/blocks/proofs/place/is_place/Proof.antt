@@ -99,7 +99,8 @@ item-named-requires c κs = search needs
 
 returns-4 : tie.Need-returns-4 Inv-loop μ-loop
 returns-4 c =
-    let L = c .before .before .before .before .before .loop in
+    let loop′ : tie.At-loop Inv-loop μ-loop = search in
+    let L = loop′ .loop in
     let f = c .before .item-named in
     stopped _ _ (L .j) (omega arith) (L .inv .1) (f .result) (f .ensures) (not-true (f .result) (c .if4 .taken)) (L .inv .2)
 
@@ -111,7 +112,8 @@ loop-less c = search needs
 
 loop-again : tie.Need-loop-again Inv-loop μ-loop
 loop-again c =
-    let L = c .before .before .before .before .before .loop in
+    let loop′ : tie.At-loop Inv-loop μ-loop = search in
+    let L = loop′ .loop in
     let f = c .before .item-named in
     (omega arith, L .inv .1, carried _ _ (L .j) (omega arith) (L .inv .1) (f .result) (f .ensures) (not-false (f .result) (c .if4 .left)) (L .inv .2))
 

@@ -36,13 +36,21 @@ returns : tie.Need-returns
 returns c = bare (c .before .args .o) (c .before .args .a) (c .match .keys1)
 
 returns-2 : tie.Need-returns-2
-returns-2 c = let a = c .before .before .before .args in numbered (a .o) (a .a) (λ e. c .before .before .match .rest .1 (inl e)) (c .before .if1 .left) (c .if2 .taken)
+returns-2 c =
+    let match-rest : tie.At-match-rest = search in
+    let start : tie.Start = search in
+    let a = start .args in numbered (a .o) (a .a) (λ e. match-rest .match .rest .1 (inl e)) (c .before .if1 .left) (c .if2 .taken)
 
 returns-3 : tie.Need-returns-3
-returns-3 c = before (c .before .before .args .o) (c .before .before .args .a) (c .if1 .taken)
+returns-3 c =
+    let start : tie.Start = search in
+    before (start .args .o) (start .args .a) (c .if1 .taken)
 
 returns-4 : tie.Need-returns-4
-returns-4 c = let a = c .before .before .before .args in behind (a .o) (a .a) (λ e. c .before .before .match .rest .1 (inr e)) (c .if2 .left)
+returns-4 c =
+    let match-rest : tie.At-match-rest = search in
+    let start : tie.Start = search in
+    let a = start .args in behind (a .o) (a .a) (λ e. match-rest .match .rest .1 (inr e)) (c .if2 .left)
 
 pub item-named-spec : {M : Type 1} → statement M
 item-named-spec = tie.close (tie.spec returns returns-2 returns-3 returns-4)

@@ -98,7 +98,8 @@ op-of-requires c κs = search needs
 -- the root behind item i
 joined : (c : tie.Joined1 Inv-loop μ-loop) → c .if1 .root ≡ root-before (c .before .before .before .before .before .before .before .args .fun .now) (c .before .before .before .loop .i + 1)
 joined c =
-    let L = c .before .before .before .loop in
+    let loop′ : tie.At-loop Inv-loop μ-loop = search in
+    let L = loop′ .loop in
     let f = c .before .op-of in
     ⊎-elim
     (λ w. w .1 ∙ root-now _ (L .i) (sym (f .ensures) ∙ w .0 .taken))
@@ -110,17 +111,24 @@ uses-place-requires c κs = search needs
 
 ops-from-requires : tie.Need-ops-from-requires Inv-loop μ-loop
 ops-from-requires c κs =
-    let s = c .before .before .before .before .before .before .before .before .before in
-    (s .pre .laid, (omega (arith, root-behind (s .args .fun .now) (c .before .before .before .before .before .loop .i), joined (c .before .before)), omega arith))
+    let joined1 : tie.Joined1 Inv-loop μ-loop = search in
+    let loop′ : tie.At-loop Inv-loop μ-loop = search in
+    let start : tie.Start Inv-loop μ-loop = search in
+    let s = start in
+    (s .pre .laid, (omega (arith, root-behind (s .args .fun .now) (loop′ .loop .i), joined (joined1)), omega arith))
 
 args-from-requires : tie.Need-args-from-requires Inv-loop μ-loop
 args-from-requires c κs = ops-from-requires (c .before) κs
 
 used-ok-requires : tie.Need-used-ok-requires Inv-loop μ-loop
 used-ok-requires c κs =
-    let u = c .before .before .before in
-    spotted (c .before .before .before .before .before .before .before .before .before .before .before .pre) (omega arith) (sym (u .uses-place .ensures) ∙ c .before .before .if2 .taken)
-    (joined (c .before .before .before .before)) _ _ (c .before .ops-from .ensures) (c .args-from .ensures)
+    let then2 : tie.Then2 Inv-loop μ-loop = search in
+    let uses-place′ : tie.After-uses-place Inv-loop μ-loop = search in
+    let joined1 : tie.Joined1 Inv-loop μ-loop = search in
+    let start : tie.Start Inv-loop μ-loop = search in
+    let u = uses-place′ in
+    spotted (start .pre) (omega arith) (sym (u .uses-place .ensures) ∙ then2 .if2 .taken)
+    (joined (joined1)) _ _ (c .before .ops-from .ensures) (c .args-from .ensures)
 
 -- what `used_ok` says is what the place is
 verdict : (c : tie.After-used-ok Inv-loop μ-loop)
@@ -142,9 +150,11 @@ loop-less c = search needs
 
 loop-again : tie.Need-loop-again Inv-loop μ-loop
 loop-again c =
-    let L = c .before .before .before .before .before .loop in (
+    let joined1 : tie.Joined1 Inv-loop μ-loop = search in
+    let loop′ : tie.At-loop Inv-loop μ-loop = search in
+    let L = loop′ .loop in (
       omega arith,
-      joined (c .before .before),
+      joined (joined1),
       passed _ (L .i) (L .inv .2) (⊎-elim
           (λ w. sym (verdict (record { before = record { before = record { before = record { before = c .before; if2 = w .0 }; ops-from = w .1 }; args-from = w .2 }; used-ok = w .3 }))
           ∙ not-false (w .3 .result) (w .4 .left))

@@ -38,18 +38,22 @@ op-of-requires c κs = search needs
 
 returns : tie.Need-returns Inv-loop μ-loop
 returns c =
-    let L = c .before .before .before .loop in
+    let in-loop : tie.In-loop Inv-loop μ-loop = search in
+    let loop′ : tie.At-loop Inv-loop μ-loop = search in
+    let L = loop′ .loop in
     let f = c .before .op-of in
-    found _ _ (L .j) (L .inv .1) (c .before .before .loop-test .taken) (f .result) (f .ensures) (c .if1 .taken)
+    found _ _ (L .j) (L .inv .1) (in-loop .loop-test .taken) (f .result) (f .ensures) (c .if1 .taken)
 
 loop-less : tie.Need-loop-less Inv-loop μ-loop
 loop-less c = search needs
 
 loop-again : tie.Need-loop-again Inv-loop μ-loop
 loop-again c =
-    let L = c .before .before .before .loop in
+    let in-loop : tie.In-loop Inv-loop μ-loop = search in
+    let loop′ : tie.At-loop Inv-loop μ-loop = search in
+    let L = loop′ .loop in
     let f = c .before .op-of in
-    (omega arith, onward _ _ (L .j) (L .inv .1) (c .before .before .loop-test .taken) (f .result) (f .ensures) (c .if1 .left))
+    (omega arith, onward _ _ (L .j) (L .inv .1) (in-loop .loop-test .taken) (f .result) (f .ensures) (c .if1 .left))
 
 returns-2 : tie.Need-returns-2 Inv-loop μ-loop
 returns-2 c = none-left _ _ (c .before .loop .j) (c .before .loop .inv .1) (c .loop-test .left)

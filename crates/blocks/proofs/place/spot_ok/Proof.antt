@@ -30,7 +30,9 @@ module _ (ops args : List ℕ) (locals limit : ℕ) (q : Spot) (is : spot-of ops
     short k l e = cc (lt-ltb (q .local) locals (omega (arith, spot-root ops args q is)), le-leb (length (q .place)) 128 (omega (arith, spot-ops ops args q is)))
 
 shared-slice-read-wide : tie.Need-shared-slice-read-wide
-shared-slice-read-wide c = let s = c .before .before .before .pre in omega (arith, spot-ops _ _ (s .spot) (s .is), spot-args _ _ (s .spot) (s .is))
+shared-slice-read-wide c =
+    let start : tie.Start = search in
+    let s = start .pre in omega (arith, spot-ops _ _ (s .spot) (s .is), spot-args _ _ (s .spot) (s .is))
 
 wide-requires : tie.Need-wide-requires
 wide-requires c κs = search needs

@@ -63,7 +63,8 @@ shared-slice-read-o c = search needs
 
 returns : tie.Need-returns Inv-loop μ-loop
 returns c =
-    let L = c .before .before .before .loop in
+    let loop′ : tie.At-loop Inv-loop μ-loop = search in
+    let L = loop′ .loop in
     counted-index _ _ (L .j) (L .k) (L .inv .2) (L .inv .0) (omega arith) (c .if1 .taken)
 
 add-k : tie.Need-add-k Inv-loop μ-loop
@@ -77,7 +78,8 @@ loop-less c = search needs
 
 loop-again : tie.Need-loop-again Inv-loop μ-loop
 loop-again c =
-    let L = c .before .before .before .before .loop in
+    let loop′ : tie.At-loop Inv-loop μ-loop = search in
+    let L = loop′ .loop in
     ⊎-elim
     (λ w. (omega arith, omega arith, rw (w .1) (counted-step _ _ (L .j) (L .k) (L .inv .2) (L .inv .0) (omega arith) (c .before .if1 .left) (w .0 .taken))))
     (λ w. (omega arith, omega arith, rw (w .1) (counted-cast _ _ (L .j) (L .k) (L .inv .2) (L .inv .0) (omega arith) (c .before .if1 .left) (w .0 .left))))

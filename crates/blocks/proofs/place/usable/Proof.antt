@@ -73,7 +73,9 @@ shared-slice-read-o : tie.Need-shared-slice-read-o Inv-loop μ-loop
 shared-slice-read-o c = search needs
 
 returns : tie.Need-returns Inv-loop μ-loop
-returns c = let L = c .before .before .before .loop in left-index _ _ (L .j) (L .cast) (L .inv .1) (L .inv .0) (omega arith) (c .if1 .taken)
+returns c =
+    let loop′ : tie.At-loop Inv-loop μ-loop = search in
+    let L = loop′ .loop in left-index _ _ (L .j) (L .cast) (L .inv .1) (L .inv .0) (omega arith) (c .if1 .taken)
 
 add-j : tie.Need-add-j Inv-loop μ-loop
 add-j c = search needs
@@ -83,7 +85,8 @@ loop-less c = search needs
 
 loop-again : tie.Need-loop-again Inv-loop μ-loop
 loop-again c =
-    let L = c .before .before .before .loop in
+    let loop′ : tie.At-loop Inv-loop μ-loop = search in
+    let L = loop′ .loop in
     (omega arith, left-more _ _ (L .j) (L .cast) (L .inv .1) (L .inv .0) (omega arith) (c .if1 .left))
 
 returns-2 : tie.Need-returns-2 Inv-loop μ-loop

@@ -26,7 +26,9 @@ usable-requires : tie.Need-usable-requires
 usable-requires c κs = search needs
 
 returns-2 : tie.Need-returns-2
-returns-2 c = λ q e. passed _ q (c .before .before .spot-ok .result) (c .usable .result) (c .before .before .spot-ok .ensures q e) (not-false (c .before .before .spot-ok .result) (c .before .if1 .left)) (c .usable .ensures q e)
+returns-2 c =
+    let spot-ok′ : tie.After-spot-ok = search in
+    λ q e. passed _ q (spot-ok′ .spot-ok .result) (c .usable .result) (spot-ok′ .spot-ok .ensures q e) (not-false (spot-ok′ .spot-ok .result) (c .before .if1 .left)) (c .usable .ensures q e)
 
 pub used-ok-spec : {M : Type 1} → statement M
 used-ok-spec = tie.close (tie.spec spot-ok-requires returns usable-requires returns-2)

@@ -38,20 +38,27 @@ returns : tie.Need-returns
 returns c = let f = c .before .op-of in under _ _ (f .result) (f .ensures) (c .if1 .taken)
 
 returns-2 : tie.Need-returns-2
-returns-2 c = let f = c .before .before .op-of in over _ _ (f .result) (f .ensures) (c .before .if1 .left) (c .if2 .taken)
+returns-2 c =
+    let op-of′ : tie.After-op-of = search in
+    let f = op-of′ .op-of in over _ _ (f .result) (f .ensures) (c .before .if1 .left) (c .if2 .taken)
 
 returns-3 : tie.Need-returns-3
 returns-3 c =
-    let f = c .before .before .before .op-of in
-    first _ _ (f .result) (f .ensures) (c .before .before .if1 .left) (c .before .if2 .left) (c .if3 .taken)
+    let else1 : tie.Else1 = search in
+    let op-of′ : tie.After-op-of = search in
+    let f = op-of′ .op-of in
+    first _ _ (f .result) (f .ensures) (else1 .if1 .left) (c .before .if2 .left) (c .if3 .taken)
 
 op-of-requires-2 : tie.Need-op-of-requires-2
 op-of-requires-2 c κs = search needs
 
 returns-4 : tie.Need-returns-4
 returns-4 c =
-    let f = c .before .before .before .before .op-of in
-    by-last _ _ (f .result) (f .ensures) (c .before .before .before .if1 .left) (c .before .before .if2 .left) (c .before .if3 .left) (c .op-of2 .result) (c .op-of2 .ensures)
+    let else2 : tie.Else2 = search in
+    let else1 : tie.Else1 = search in
+    let op-of′ : tie.After-op-of = search in
+    let f = op-of′ .op-of in
+    by-last _ _ (f .result) (f .ensures) (else1 .if1 .left) (else2 .if2 .left) (c .before .if3 .left) (c .op-of2 .result) (c .op-of2 .ensures)
 
 pub uses-place-spec : {M : Type 1} → statement M
 uses-place-spec = tie.close (tie.spec op-of-requires returns returns-2 returns-3 op-of-requires-2 returns-4)

@@ -2,21 +2,20 @@
 use mathlib.Core.Path.{_≡_, refl, sym, _∙_}
 use mathlib.Core.Bool.{true}
 use mathlib.Core.Option.{some}
-use Prim.Native.Nat.{_<_}
+use Prim.Native.Nat.{ℕ, _<_}
 use native.Mathlib.Omega.{arith}
 use borrow.Author.Needs.{needs}
 use lib.ListN.{getD-replicate}
-use Rattle.model.specs.Tree.{Forest}
 use Rattle.model.specs.Walk.{enum-at}
-use Rattle.model.specs.Function.{nitems, local-types}
+use Rattle.model.specs.Function.{nitems}
 use Rattle.model.specs.Block.{spot-before, uses-place}
-use Rattle.records.specs.Here.{Holds}
-use Rattle.state.specs.Value.{value, state-in}
+use Rattle.state.specs.Value.{state-in}
 use Rattle.blocks.specs.Points.{matched-read}
 use Rattle.blocks.proofs.Spots.{block-stop}
 use Rattle.blocks.proofs.Points.{matched-holds}
 use Rattle.env.specs.Answers.{enum-of}
-use Rattle.body.proofs.Places.{place-range, place-spot, place-locals, place-given}
+use Rattle.body.specs.Given.{In-each}
+use Rattle.body.proofs.Places.{place-range, place-spot, place-locals, place-holds, place-given}
 use Rattle.body.proofs.Plans.{planned-plain, planned-walk}
 use Rattle.body.proofs.Matches.{item-none, item-some, enum-refused, enum-done}
 use Rattle.body.proofs.arms.plan_of.Statement.{statement}
@@ -32,29 +31,45 @@ enum-told : tie.Need-enum-told
 enum-told c = search needs
 
 returns : tie.Need-returns
-returns c = λ E h.
-    let a = c .before .before .before .before .before .before .before .before .args in
-    planned-plain (a .types .now) (a .fun .now) (a .b) E (item-none (matched-read (a .fun .now) (a .b)) (sym (c .before .before .matched .ensures) ∙ c .enum-told .given .1))
+returns c E h =
+    let s : tie.Start = search in
+    let a = s .args in
+    let m : tie.After-matched = search in
+    planned-plain (a .types .now) (a .fun .now) (a .b) E (item-none (matched-read (a .fun .now) (a .b)) (sym (m .matched .ensures) ∙ c .enum-told .given .1))
 
--- the block matches on the read
-known : (c : tie.After-known-told) → matched-read (c .before .before .before .before .before .before .before .before .before .args .fun .now) (c .before .before .before .before .before .before .before .before .before .args .b) ≡ some (c .before .m .given .0 .0)
-known c = let a = c .before .before .before .before .before .before .before .before .before .args in item-some (matched-read (a .fun .now) (a .b)) (sym (c .before .before .before .matched .ensures) ∙ c .before .m .given .1)
+-- WHERE THE BLOCK MATCHES ON A READ
 
--- which is one of the record's items, and uses a place
-read : (c : tie.After-known-told) → (c .before .m .given .0 .0 < nitems (c .before .before .before .before .before .before .before .before .before .args .fun .now)) × (uses-place (c .before .before .before .before .before .before .before .before .before .args .fun .now) (c .before .m .given .0 .0) ≡ true)
-read c =
-    let p = c .before .before .before .before .before .before .before .before .before .pre in
-    let R = matched-holds (p .0 .formed) (p .1 .0) (known c) in
-    (omega (arith, R .high, block-stop (p .0 .formed) (p .1 .0)), R .uses)
+module _ (c : tie.After-known-told) where
+  -- the function's entry, where the match is found, and its read
+  abbrev start : tie.Start
+  start = search
+
+  abbrev found : tie.After-matched
+  found = search
+
+  abbrev read : ℕ
+  read = c .before .m .given .0 .0
+
+  -- it does
+  known : matched-read (start .args .fun .now) (start .args .b) ≡ some read
+  known = let a = start .args in item-some (matched-read (a .fun .now) (a .b)) (sym (found .matched .ensures) ∙ c .before .m .given .1)
+
+  -- which is one of the record's items, and uses a place
+  reads : (read < nitems (start .args .fun .now)) × (uses-place (start .args .fun .now) read ≡ true)
+  reads =
+      let (A, (b, S)) = start .pre in
+      let R = matched-holds (A .formed) b known in
+      (omega (arith, R .high, block-stop (A .formed) b), R .uses)
 
 root-before-requires : tie.Need-root-before-requires
-root-before-requires c κs = (c .before .before .before .before .before .before .before .before .before .pre .0 .formed .laid, omega (arith, read c .0))
+root-before-requires c κs = (start c .pre .0 .formed .laid, omega (arith, reads c .0))
 
 ops-from-requires : tie.Need-ops-from-requires
 ops-from-requires c κs =
-    let p = c .before .before .before .before .before .before .before .before .before .before .pre in
-    let r = read (c .before) in
-    (p .0 .formed .laid, place-range (p .0) (r .0) (r .1) (c .root-before .ensures))
+    let k : tie.After-known-told = search in
+    let A = start k .pre .0 in
+    let (l, u) = reads k in
+    (A .formed .laid, place-range A l u (c .root-before .ensures))
 
 args-from-requires : tie.Need-args-from-requires
 args-from-requires c κs = ops-from-requires (c .before) κs
@@ -62,24 +77,49 @@ args-from-requires c κs = ops-from-requires (c .before) κs
 local-types-requires : tie.Need-local-types-requires
 local-types-requires c κs = search needs
 
-enum-at-requires : tie.Need-enum-at-requires
-enum-at-requires c κs =
-    let p = c .before .before .before .before .before .before .before .before .before .before .before .before .before .pre in
-    let r = read (c .before .before .before .before) in
-    let e = c .before .before .before .root-before .ensures in
-    let z = c .local-types .ensures in
-    let o = c .before .before .ops-from .ensures in
-    let a = c .before .args-from .ensures in
-    (p .0 .ready, (place-locals (p .0) (r .0) (r .1) e _ _ _ z o a, (_, place-given (p .0) (r .0) (r .1) e _ _ _ z o a (p .1 .1 .1))))
+-- THE WALK
 
--- what the walk answers
-walked : (c : tie.After-enum-at) (E : Forest) → Holds (c .before .before .before .before .before .before .before .before .before .before .before .before .before .before .args .types .now) (local-types (c .before .before .before .before .before .before .before .before .before .before .before .before .before .before .args .fun .now)) (value (state-in (c .before .before .before .before .before .before .before .before .before .before .before .before .before .before .args .forms .now) (c .before .before .before .before .before .before .before .before .before .before .before .before .before .before .args .whats .now) (c .before .before .before .before .before .before .before .before .before .before .before .before .before .before .args .nodes))) E
-    → c .enum-at .result ≡ enum-of (enum-at (c .before .before .before .before .before .before .before .before .before .before .before .before .before .before .args .types .now) (spot-before (c .before .before .before .before .before .before .before .before .before .before .before .before .before .before .args .fun .now) (c .before .before .before .before .before .before .m .given .0 .0)) E)
-walked c E h =
-    let p = c .before .before .before .before .before .before .before .before .before .before .before .before .before .before .pre in
-    let r = read (c .before .before .before .before .before) in
-    let z = c .before .local-types .ensures in
-    c .enum-at .ensures (c .before .before .before .before .before .before .before .before .before .before .before .before .before .before .args .nodes) E _ (rw z h) (place-spot (p .0) (r .0) (r .1) (c .before .before .before .before .root-before .ensures) _ _ _ z (c .before .before .before .ops-from .ensures) (c .before .before .args-from .ensures))
+module _ (m : tie.After-local-types) where
+  -- where the read is known, the root of its place is found, and its items are taken
+  abbrev told : tie.After-known-told
+  told = search
+
+  abbrev rooted : tie.After-root-before
+  rooted = search
+
+  abbrev opped : tie.After-ops-from
+  opped = search
+
+enum-at-requires : tie.Need-enum-at-requires
+enum-at-requires m κs =
+    let (A, (b, S)) = start (told m) .pre in
+    let (l, u) = reads (told m) in
+    let e = rooted m .root-before .ensures in
+    let z = m .local-types .ensures in
+    let o = opped m .ops-from .ensures in
+    let a = m .before .args-from .ensures in
+    (A .ready, (place-locals A l u e _ _ _ z o a, (_, place-given A l u e _ _ _ z o a S)))
+
+module _ (c : tie.After-enum-at) where
+  -- where the read is known, and the function's entry
+  abbrev before-walk : tie.After-known-told
+  before-walk = told (c .before)
+
+  abbrev first : tie.Start
+  first = start before-walk
+
+  -- what it answers
+  walked : In-each (first .args .types .now) (first .args .fun .now) (state-in (first .args .forms .now) (first .args .whats .now) (first .args .nodes))
+      (λ E. c .enum-at .result ≡ enum-of (enum-at (first .args .types .now) (spot-before (first .args .fun .now) (read before-walk)) E))
+  walked E h =
+      let m = c .before in
+      let A = first .pre .0 in
+      let (l, u) = reads before-walk in
+      let e = rooted m .root-before .ensures in
+      let z = m .local-types .ensures in
+      let o = opped m .ops-from .ensures in
+      let a = m .before .args-from .ensures in
+      c .enum-at .ensures (first .args .nodes) E _ (place-holds A l u e _ _ _ z o a h) (place-spot A l u e _ _ _ z o a)
 
 enum-known-e : tie.Need-enum-known-e
 enum-known-e c = search needs
@@ -92,29 +132,25 @@ slice-aggregate-try-arms c = search needs
 
 try-arms-requires : tie.Need-try-arms-requires
 try-arms-requires c κs =
-    let p = c .before .before .before .before .before .before .before .before .before .before .before .before .before .before .before .before .before .before .pre in (
-      p .0,
+    let w : tie.After-enum-at = search in
+    let (A, (b, S)) = first w .pre in (
+      A,
       (
-        p .1 .0,
+        b,
         (
-          p .1 .1 .0,
+          S,
           (
-            p .1 .1 .1,
-            (
-              record {
-                is = known (c .before .before .before .before .before .before .before .before .before);
-                enum = λ E h. enum-done _ (sym (walked (c .before .before .before .before) E h) ∙ c .before .before .e2 .given .1);
-              },
-              record { long = refl; zero = λ v l. getD-replicate 16384 v 0 0 l },
-            ),
+            record { is = known (before-walk w); enum = λ E h. enum-done _ (sym (walked w E h) ∙ c .before .before .e2 .given .1) },
+            record { long = refl; zero = λ v l. getD-replicate 16384 v 0 0 l },
           ),
         ),
       ),
     )
 
 returns-2 : tie.Need-returns-2
-returns-2 c = λ E h.
-    planned-walk _ _ _ _ E (known (c .before .before .before .before .before .before .before .before)) (enum-refused _ (sym (walked (c .before .before .before) E h) ∙ c .before .e .given .1))
+returns-2 c E h =
+    let w : tie.After-enum-at = search in
+    planned-walk _ _ _ _ E (known (before-walk w)) (enum-refused _ (sym (walked w E h) ∙ c .before .e .given .1))
 
 returns-3 : tie.Need-returns-3
 returns-3 c = search needs

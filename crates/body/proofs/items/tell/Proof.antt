@@ -2,6 +2,7 @@
 use borrow.Author.Needs.{needs}
 use mathlib.Core.Path.{refl}
 use Rattle.base.specs.Tests.{clash}
+use Rattle.statements.proofs.Puts.{alike-at}
 use Rattle.body.proofs.items.tell.Statement.{statement}
 use Rattle.body.proofs.items.tell.Tie as tie
 
@@ -13,11 +14,16 @@ same-length c = search needs
 
 returns : tie.Need-returns
 returns c =
-    let t = c .before .before .before .before .if1 .taken in
-    (λ e. c .before .before .«record» .ensures, λ e. clash (cc))
+    let d : tie.Then1 = search in
+    let r : tie.After-record = search in
+    let t = d .if1 .taken in
+    record { told = λ e. r .«record» .ensures .0; silent = λ e. clash (cc) }
 
 returns-2 : tie.Need-returns-2
-returns-2 c = let t = c .if1 .left in (λ e. clash (cc), λ e. (refl, refl))
+returns-2 c =
+    let s : tie.Start = search in
+    let t = c .if1 .left in
+    record { told = λ e. clash (cc); silent = λ e. (refl, alike-at (s .args .o) (s .args .o .point)) }
 
 pub tell-spec : {M : Type 1} → statement M
 tell-spec = tie.close (tie.spec record-requires same-length returns returns-2)

@@ -13,7 +13,8 @@ slice-aggregate-collect-locals-2 c = search needs
 
 collect-locals-requires : tie.Need-collect-locals-requires
 collect-locals-requires c κs =
-    let p = c .before .before .before .before .before .before .before .before .before .before .before .before .before .before .before .before .before .pre in
+    let s : tie.Start = search in
+    let p = s .pre in
     (p .0, (p .1 .0, (holds-stand (p .1 .1 .0 .1), (holds-stand (p .1 .1 .1 .0 .1), (record { first = refl; second = refl }, p .1 .1 .1 .1)))))
 
 outcome-requires : tie.Need-outcome-requires
@@ -23,7 +24,9 @@ same-length : tie.Need-same-length
 same-length c = search needs
 
 returns : tie.Need-returns
-returns c = λ S E h g. collects-told (c .before .before .before .before .before .before .before .before .before .before .before .before .before .before .before .before .before .before .before .before .before .before .before .args .p .op, c .before .before .before .before .before .before .before .before .before .before .before .before .before .before .before .before .before .before .before .before .before .before .before .args .p .arg) (c .before .before .before .before .before .collect-locals .ensures .trees S E (h .trees) (g .trees)) (c .outcome .ensures)
+returns c =
+    let g : tie.After-collect-locals = search in
+    λ S E h k. collects-told (g .collect-locals .ensures .trees S E (h .trees) (k .trees)) (c .outcome .ensures)
 
 pub collect-fold-unfolds-spec : {M : Type 1} → statement M
 collect-fold-unfolds-spec =

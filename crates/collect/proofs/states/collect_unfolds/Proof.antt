@@ -13,7 +13,8 @@ slice-aggregate-unfolds-locals-2 c = search needs
 
 unfolds-locals-requires : tie.Need-unfolds-locals-requires
 unfolds-locals-requires c κs =
-    let p = c .before .before .before .before .before .before .before .before .before .before .before .before .pre in
+    let s : tie.Start = search in
+    let p = s .pre in
     (p .0, (p .1 .0, (holds-stand (p .1 .1 .0 .1), (record { first = refl; second = refl }, p .1 .1 .1))))
 
 outcome-requires : tie.Need-outcome-requires
@@ -23,7 +24,9 @@ same-length : tie.Need-same-length
 same-length c = search needs
 
 returns : tie.Need-returns
-returns c = λ S h. collects-told (c .before .before .before .before .before .before .before .before .before .before .before .before .before .before .before .before .before .before .args .p .op, c .before .before .before .before .before .before .before .before .before .before .before .before .before .before .before .before .before .before .args .p .arg) (c .before .before .before .before .before .unfolds-locals .ensures .trees S (h .trees)) (c .outcome .ensures)
+returns c =
+    let g : tie.After-unfolds-locals = search in
+    λ S h. collects-told (g .unfolds-locals .ensures .trees S (h .trees)) (c .outcome .ensures)
 
 pub collect-unfolds-spec : {M : Type 1} → statement M
 collect-unfolds-spec =

@@ -23,7 +23,11 @@ same-length-2 : tie.Need-same-length-2
 same-length-2 c = search needs
 
 returns : tie.Need-returns
-returns c = hop-deref (sym (c .before .before .before .before .before .before .before .before .pointer .ensures) ∙ c .before .before .before .before .before .before .before .if1 .taken) (c .before .before .before .before .set-item .ensures) refl
+returns c =
+    let set : tie.After-set-item = search in
+    let p : tie.After-pointer = search in
+    let yes : tie.Then1 = search in
+    hop-deref (sym (p .pointer .ensures) ∙ yes .if1 .taken) (set .set-item .ensures) refl
 
 set-item-requires-2 : tie.Need-set-item-requires-2
 set-item-requires-2 c κs = search needs
@@ -44,7 +48,14 @@ same-length-4 : tie.Need-same-length-4
 same-length-4 c = search needs
 
 returns-2 : tie.Need-returns-2
-returns-2 c = hop-cast (sym (c .before .before .before .before .before .before .before .before .before .before .before .before .before .before .before .before .before .pointer .ensures) ∙ c .before .before .before .before .before .before .before .before .before .before .before .before .before .before .before .before .if1 .left) (rw (c .before .before .before .before .before .before .before .before .before .before .before .before .before .before .before .if2 .taken, eq-eqb _ 7 (c .before .before .before .before .before .before .before .before .before .before .before .before .before .before .if3 .taken))) (c .before .before .before .before .before .before .before .before .before .before .before .set-item2 .ensures) (c .before .before .before .before .set-item3 .ensures) refl
+returns-2 c =
+    let one : tie.After-set-item2 = search in
+    let two : tie.After-set-item3 = search in
+    let p : tie.After-pointer = search in
+    let no : tie.Else1 = search in
+    let full : tie.Then2 = search in
+    let seven : tie.Then3 = search in
+    hop-cast (sym (p .pointer .ensures) ∙ no .if1 .left) (rw (full .if2 .taken, eq-eqb _ 7 (seven .if3 .taken))) (one .set-item2 .ensures) (two .set-item3 .ensures) refl
 
 set-item-requires-4 : tie.Need-set-item-requires-4
 set-item-requires-4 c κs = search needs
@@ -59,7 +70,12 @@ same-length-6 : tie.Need-same-length-6
 same-length-6 c = search needs
 
 returns-3 : tie.Need-returns-3
-returns-3 c = hop-field (sym (c .before .before .before .before .before .before .before .before .before .pointer .ensures) ∙ c .before .before .before .before .before .before .before .before .if1 .left) (⊎-elim (λ w. rw (w .0 .taken, ne-eqb _ 7 (w .1 .left))) (λ w. rw (w .left)) (c .before .before .before .before .before .before .before .if2 .came)) (c .before .before .before .before .set-item4 .ensures) refl
+returns-3 c =
+    let set : tie.After-set-item4 = search in
+    let p : tie.After-pointer = search in
+    let no : tie.Else1 = search in
+    let j : tie.Joined2 = search in
+    hop-field (sym (p .pointer .ensures) ∙ no .if1 .left) (⊎-elim (λ w. rw (w .0 .taken, ne-eqb _ 7 (w .2 .left))) (λ w. rw (w .left)) (j .if2 .came)) (set .set-item4 .ensures) refl
 
 pub hop-spec : {M : Type 1} → statement M
 hop-spec =

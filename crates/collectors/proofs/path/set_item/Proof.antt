@@ -28,7 +28,9 @@ same-length-2 : tie.Need-same-length-2
 same-length-2 c = search needs
 
 returns : tie.Need-returns
-returns c = rw (c .small .ensures ∙ mod-eq-of-lt (c .before .before .before .pre .1 .1)) (trail-set (c .before .before .before .pre .0) _ _ (c .before .before .before .pre .1 .0))
+returns c =
+    let s : tie.Start = search in
+    rw (c .small .ensures ∙ mod-eq-of-lt (s .pre .1 .1)) (trail-set (s .pre .0) _ _ (s .pre .1 .0))
 
 pub set-item-spec : {M : Type 1} → statement M
 set-item-spec =

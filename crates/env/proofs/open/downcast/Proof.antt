@@ -13,9 +13,9 @@ use Rattle.env.proofs.open.downcast.Tie as tie
 open-last-requires : tie.Need-open-last-requires
 unfolding elem-of
 open-last-requires c κs =
-    let s = c .before .before .before .before .before .before .before .before .before in
+    let s : tie.Start = search in
     let n = length (s .args .locals .now) in
-    (s .pre .0, (s .pre .1 .0, (given-also (s .pre .1 .1) (unfold-ok n) (used-unfolds n), (refl, λ z. omega arith))))
+    ((s .pre .0, (s .pre .1 .0, given-also (s .pre .1 .1) (unfold-ok n) (used-unfolds n))), record { some = λ z. omega arith; stays = refl })
 
 same-length : tie.Need-same-length
 same-length c = search needs
@@ -25,8 +25,10 @@ same-length-2 c = search needs
 
 returns : tie.Need-returns
 returns c =
-    let a = c .before .before .before .before .before .before .before .before .before .before .before .before .before .before .args in
-    λ E q h is. moves-same (last-cast (a .types .now) q (a .v) E) (c .before .before .before .before .open-last .ensures E q h is)
+    let o : tie.After-open-last = search in
+    let s : tie.Start = search in
+    let a = s .args in
+    λ E q h is. moves-same (last-cast (a .types .now) q (a .v) E) (o .open-last .ensures E q h is)
 
 pub downcast-spec : {M : Type 1} → statement M
 downcast-spec = tie.close (tie.spec open-last-requires same-length same-length-2 returns)

@@ -9,7 +9,7 @@ use Rattle.env.proofs.open.unfold.Tie as tie
 
 open-last-requires : tie.Need-open-last-requires
 unfolding elem-of
-open-last-requires c κs = let s = c .before .before .before .before .before .before .before .before .before in (s .pre .0, (s .pre .1 .0, (s .pre .1 .1, (refl, λ z. omega arith))))
+open-last-requires c κs = let s : tie.Start = search in (s .pre, record { some = λ z. omega arith; stays = refl })
 
 same-length : tie.Need-same-length
 same-length c = search needs
@@ -19,8 +19,10 @@ same-length-2 c = search needs
 
 returns : tie.Need-returns
 returns c =
-    let a = c .before .before .before .before .before .before .before .before .before .before .before .before .before .before .args in
-    λ E q h is. moves-same (last-unfold (a .types .now) (a .locals .now) q E) (c .before .before .before .before .open-last .ensures E q h is)
+    let o : tie.After-open-last = search in
+    let s : tie.Start = search in
+    let a = s .args in
+    λ E q h is. moves-same (last-unfold (a .types .now) (a .locals .now) q E) (o .open-last .ensures E q h is)
 
 pub unfold-spec : {M : Type 1} → statement M
 unfold-spec = tie.close (tie.spec open-last-requires same-length same-length-2 returns)

@@ -20,6 +20,10 @@ use Rattle.env.proofs.project.fold.Tie as tie
 used-requires : tie.Need-used-requires
 used-requires c κs = search needs
 
+-- the function's entry, seen from its use
+abbrev start : tie.After-used → tie.Start
+start u = search
+
 enum-known-a : tie.Need-enum-known-a
 enum-known-a c = search needs
 
@@ -31,11 +35,13 @@ same-length-2 c = search needs
 
 returns : tie.Need-returns
 returns c =
-    let s = c .before .before .before .before .before .before .before .before .before .before .before .before .before .before .before .before .before in
+    let a : tie.After-a = search in
+    let u : tie.After-used = search in
+    let s = start u in
     let n = length (s .args .locals .now) in
     λ E q h is.
     let ok = given-passes (s .pre .1 .1) is in
-    fold-refused (h .trees .fits) q (spot-limited n q 64 (fold-walks n q ok) .known) (fold-usable n q ok) (c .before .before .before .before .before .before .before .used .ensures E q h is) (c .before .a .given .1)
+    fold-refused (h .trees .fits) q (spot-limited n q 64 (fold-walks n q ok) .known) (fold-usable n q ok) (u .used .ensures E q h is) (a .a .given .1)
 
 -- an answer of another variant is no refusal
 accepted : (a : Projected) → OneOf (0 ∷ 1 ∷ 2 ∷ []) (tagOf the-type a) → (n : ℕ) → a ≡ Refused n → ⊥
@@ -52,11 +58,12 @@ same-length-4 c = search needs
 
 returns-2 : tie.Need-returns-2
 returns-2 c =
-    let s = c .before .before .before .before .before .before .before .before .before .before .before .before .before .before .before in
+    let u : tie.After-used = search in
+    let s = start u in
     let n = length (s .args .locals .now) in
     λ E q h is.
     let ok = given-passes (s .pre .1 .1) is in
-    fold-carried (h .trees .fits) q (spot-limited n q 64 (fold-walks n q ok) .known) (fold-usable n q ok) (c .before .before .before .before .before .used .ensures E q h is) (accepted (c .before .before .before .before .before .used .result .answer) (c .match .keys2))
+    fold-carried (h .trees .fits) q (spot-limited n q 64 (fold-walks n q ok) .known) (fold-usable n q ok) (u .used .ensures E q h is) (accepted (u .used .result .answer) (c .match .keys2))
 
 pub fold-spec : {M : Type 1} → statement M
 fold-spec = tie.close (tie.spec used-requires enum-known-a same-length same-length-2 returns same-length-3 same-length-4 returns-2)

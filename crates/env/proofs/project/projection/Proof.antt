@@ -8,7 +8,7 @@ use Rattle.env.proofs.project.projection.Tie as tie
 
 used-requires : tie.Need-used-requires
 used-requires c κs =
-    let s = c .before .before .before .before .before .before .before .before .before in
+    let s : tie.Start = search in
     let n = length (s .args .locals .now) in
     (s .pre .0, (s .pre .1 .0, given-also (s .pre .1 .1) (fold-ok n) (used-folds n)))
 
@@ -19,7 +19,7 @@ same-length-2 : tie.Need-same-length-2
 same-length-2 c = search needs
 
 returns : tie.Need-returns
-returns c = c .before .before .before .before .used .ensures
+returns c = let u : tie.After-used = search in u .used .ensures
 
 pub projection-spec : {M : Type 1} → statement M
 projection-spec = tie.close (tie.spec used-requires same-length same-length-2 returns)

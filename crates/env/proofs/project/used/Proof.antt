@@ -1,39 +1,21 @@
 -- `env::project::used` meets its contract: the walk is refused, or has ended. Assumes nothing.
 use borrow.Author.Needs.{needs}
-use mathlib.Core.Path.{_≡_, subst}
-use mathlib.Core.Option.{some}
 use lib.ListN.{length}
-use Rattle.model.specs.Tree.{Forest, sizes}
-use Rattle.model.specs.Place.{Spot, spot-ok}
-use Rattle.model.specs.Walk.{pick}
-use Rattle.model.specs.Collect.{firsts}
-use Rattle.model.specs.Calls.{spot-of}
-use Rattle.records.specs.Here.{Holds}
-use Rattle.state.specs.Value.{value, state-in}
-use Rattle.state.specs.declared.nodes.State.{State}
-use Rattle.walk.specs.Site.{Walks}
-use Rattle.walk.specs.declared.along.Walked.{Walked}
-use Rattle.walk.specs.declared.along.Walked.the-variants.{To}
-use Rattle.env.specs.Given.{Given}
-use Rattle.env.proofs.Limits.{spot-limited, fold-walks, given-also, given-passes}
-use Rattle.env.proofs.Answered.{walked-refused, projects-refused}
+use Rattle.env.proofs.Limits.{fold-walks, given-passes}
+use Rattle.env.proofs.Walked.{walk-given, walk-limited, walk-refused, walk-sited}
+use Rattle.env.proofs.Answered.{projects-refused}
 use Rattle.env.proofs.Projecting.{projection-refused}
-use Rattle.env.proofs.Lasts.{sited-at}
 use Rattle.env.proofs.project.used.Statement.{statement}
 use Rattle.env.proofs.project.used.Tie as tie
 
--- the state that the arrays hold
-abbrev given : tie.Start → State
-given c = state-in (c .args .forms .now) (c .args .whats .now) (c .args .nodes)
-
--- the place can be walked
-walks : (c : tie.Start) → Given (c .args .types .now) (c .args .locals .now) (given c) (c .args .ops .now) (c .args .args .now) (spot-ok 64 (length (c .args .locals .now)))
-walks c = given-also (c .pre .1 .1) (spot-ok 64 (length (c .args .locals .now))) (λ q h. fold-walks (length (c .args .locals .now)) q h)
-
 ensure-unfolded-requires : tie.Need-ensure-unfolded-requires
 ensure-unfolded-requires c κs =
-    let s = c .before .before .before .before .before .before .before .before .before in
-    (s .pre .0, (s .pre .1 .0, (s .args .nodes, walks s)))
+    let s : tie.Start = search in
+    (s .pre .0, (s .pre .1 .0, (s .args .nodes, walk-given (fold-walks (length (s .args .locals .now))) (s .pre .1 .1))))
+
+-- the function's entry, seen from its walk
+abbrev start : tie.After-ensure-unfolded → tie.Start
+start u = search
 
 enum-known-a : tie.Need-enum-known-a
 enum-known-a c = search needs
@@ -50,30 +32,21 @@ same-length c = search needs
 same-length-2 : tie.Need-same-length-2
 same-length-2 c = search needs
 
--- the function's entry, seen from its walk
-abbrev start : tie.After-ensure-unfolded → tie.Start
-start c = c .before .before .before .before .before .before .before .before .before .before
-
--- what the walk has found
-abbrev Found : (c : tie.After-ensure-unfolded) → Forest → Spot → Walked → Type 0
-Found c E q r = Walks ((start c) .args .types .now) ((start c) .args .forms .now) ((start c) .args .whats .now) ((start c) .args .ops .now) ((start c) .args .args .now) (sizes (firsts (q .local) E)) (q .place) (pick (q .local) E) r
-
 returns : tie.Need-returns
 returns c =
-    let s = start (c .before .before .before) in
-    λ E q h is. projects-refused (projection-refused (h .trees .fits) q (spot-limited (length (s .args .locals .now)) q 64 (given-passes (walks s) is) .known)
-    (subst (Found (c .before .before .before) E q) (walked-refused (c .before .enum-told .given .1) (c .refusal .ensures)) (c .before .before .before .ensure-unfolded .ensures (s .args .nodes) E q h is)))
-
--- it has ended
-ended : (c : tie.After-a) (E : Forest) (q : Spot) → Holds ((start (c .before .before)) .args .types .now) ((start (c .before .before)) .args .locals .now) (value (given (start (c .before .before)))) E
-    → spot-of ((start (c .before .before)) .args .ops .now) ((start (c .before .before)) .args .args .now) ≡ some q → Found (c .before .before) E q (To (c .a .given .0 .0))
-ended c E q h is = subst (Found (c .before .before) E q) (c .a .given .1) (c .before .before .ensure-unfolded .ensures ((start (c .before .before)) .args .nodes) E q h is)
+    let u : tie.After-ensure-unfolded = search in
+    let s = start u in
+    let k = fold-walks (length (s .args .locals .now)) in
+    λ E q h is. projects-refused (projection-refused (h .trees .fits) q (walk-limited k (s .pre .1 .1) is .known)
+    (walk-refused k (s .pre .1 .1) (u .ensure-unfolded .ensures) (s .args .nodes) h is (c .before .enum-told .given .1) (c .refusal .ensures)))
 
 used-at-requires : tie.Need-used-at-requires
 used-at-requires c κs =
-    let s = start (c .before .before .before .before .before) in
-    let g = walks s in
-    (s .pre .0, sited-at _ (g .state) (g .spot) (g .holds) (g .is) (g .passes) (ended (c .before .before .before) (g .state) (g .spot) (g .holds) (g .is)))
+    let w : tie.After-a = search in
+    let u : tie.After-ensure-unfolded = search in
+    let s = start u in
+    let g = s .pre .1 .1 in
+    (s .pre .0, walk-sited (fold-walks (length (s .args .locals .now))) g (u .ensure-unfolded .ensures) (s .args .nodes) (g .holds) (g .is) (w .a .given .1))
 
 same-length-3 : tie.Need-same-length-3
 same-length-3 c = search needs
@@ -83,8 +56,12 @@ same-length-4 c = search needs
 
 returns-2 : tie.Need-returns-2
 returns-2 c =
-    let s = start (c .before .before .before .before .before .before .before .before .before .before) in
-    λ E q h is. c .before .before .before .before .used-at .ensures (sited-at _ E q h is (given-passes (walks s) is) (ended (c .before .before .before .before .before .before .before .before) E q h is)) (given-passes (s .pre .1 .1) is)
+    let d : tie.After-used-at = search in
+    let w : tie.After-a = search in
+    let u : tie.After-ensure-unfolded = search in
+    let s = start u in
+    let g = s .pre .1 .1 in
+    λ E q h is. d .used-at .ensures (walk-sited (fold-walks (length (s .args .locals .now))) g (u .ensure-unfolded .ensures) (s .args .nodes) h is (w .a .given .1)) (given-passes g is)
 
 pub used-spec : {M : Type 1} → statement M
 used-spec =

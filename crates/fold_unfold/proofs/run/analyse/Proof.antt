@@ -2,11 +2,46 @@
 -- second, and both are model's. Assumes nothing.
 use borrow.Author.Needs.{needs}
 use mathlib.Core.Path.{refl}
-use Rattle.fold_unfold.specs.Runs.{blank, again}
+use Prim.Native.Nat.{ℕ, _+_, _-_}
+use native.Mathlib.Omega.{arith}
+use lib.ListN.{take, drop, replicate, length-replicate}
+use Rattle.visit.specs.Shares.{Remembers}
+use Rattle.fold_unfold.specs.Runs.{blank, again, fresh, Ranked}
 use Rattle.fold_unfold.proofs.Begun.{zeros-remembered, ranks-there}
 use Rattle.fold_unfold.proofs.Both.{first-stops, first-goes, second-begins, second-ends}
 use Rattle.fold_unfold.proofs.run.analyse.Statement.{statement}
 use Rattle.fold_unfold.proofs.run.analyse.Tie as tie
+
+-- POINTS
+
+-- the function's entry, from where the counts of locals and blocks are known
+abbrev start : tie.After-nblocks → tie.Start
+start u = search
+
+-- these counts, before each pass
+abbrev counts : tie.After-run-arg3 → tie.After-nblocks
+counts u = search
+
+-- the first pass, before the second
+abbrev first : tie.After-run-arg6 → tie.After-run
+first u = search
+
+-- the second, from behind it
+abbrev second : tie.After-slice-known9 → tie.After-run2
+second u = search
+
+-- WHAT EACH PASS NEEDS
+
+-- the ranks of the blocks
+ranked : (c : tie.After-nblocks) → let f = start c .args .fun .now in
+    let l = c .before .nlocals .result in
+    let n = c .nblocks .result in
+    Ranked f (take (4 + l + n + n - (4 + l + n)) (drop (4 + l + n) f))
+ranked c = ranks-there _ _ _ (start c .pre .0 .formed .laid) (c .before .nlocals .ensures) (c .nblocks .ensures)
+
+-- zeros are the memory before the first
+zeros : (s : tie.Start) → Remembers (s .args .types .now) (s .args .fun .now) blank (fresh (replicate 512 0) (s .args .forms .now) (s .args .whats .now))
+zeros s = zeros-remembered (s .pre .1 .1 .0) (s .pre .1 .1 .1)
 
 nlocals-requires : tie.Need-nlocals-requires
 nlocals-requires c κs = search needs
@@ -40,22 +75,9 @@ slice-aggregate-run c = search needs
 
 run-requires : tie.Need-run-requires
 run-requires c κs =
-    let n = c .before .before .before .before .before in
-    let s = n .before .before .before .before .before .before .before .before .before in
-    let A = s .pre .0 in (
-      A,
-      (
-        s .pre .1 .0,
-        (
-          ranks-there _ _ _ (A .formed .laid) (n .before .nlocals .ensures) (n .nblocks .ensures),
-          record {
-            memory = blank;
-            is = zeros-remembered (s .pre .1 .1 .0) (s .pre .1 .1 .1);
-            starts = refl;
-          },
-        ),
-      ),
-    )
+    let n = counts c in
+    let s = start n in
+    (s .pre .0, (s .pre .1 .0, (ranked n, (omega (arith, length-replicate {A = ℕ} 512 0), record { memory = blank; is = zeros s; starts = refl }))))
 
 enum-told : tie.Need-enum-told
 enum-told c = search needs
@@ -74,25 +96,27 @@ same-length-3 c = search needs
 
 returns : tie.Need-returns
 returns c =
-    let r = c .before .before .before .before .before .before .before .before .before in
-    let s = r .before .before .before .before .before .before .before .before .before .before .before .before .before .before .before in
-    first-stops (r .run .ensures blank refl (zeros-remembered (s .pre .1 .1 .0) (s .pre .1 .1 .1))) (c .enum-told2 .given .1)
+    let r : tie.After-run = search in
+    first-stops (r .run .ensures blank refl (zeros (start (counts (r .before))))) (c .enum-told2 .given .1)
 
 slice-aggregate-run-2 : tie.Need-slice-aggregate-run-2
 slice-aggregate-run-2 c = search needs
 
 run-requires-2 : tie.Need-run-requires-2
 run-requires-2 c κs =
-    let r = c .before .before .before .before .before .before .before .before .before .before .before .before .before in
-    let n = r .before .before .before .before .before .before in
-    let s = n .before .before .before .before .before .before .before .before .before in
-    let A = s .pre .0 in (
-      A,
+    let r = first c in
+    let e : tie.After-enum-told = search in
+    let n = counts (r .before) in
+    let s = start n in (
+      s .pre .0,
       (
         s .pre .1 .0,
         (
-          ranks-there _ _ _ (A .formed .laid) (n .before .nlocals .ensures) (n .nblocks .ensures),
-          second-begins (first-goes (r .run .ensures blank refl (zeros-remembered (s .pre .1 .1 .0) (s .pre .1 .1 .1))) (c .before .before .before .before .enum-told .given .1)),
+          ranked n,
+          (
+            omega (arith, r .run .kept .1 .1 .1 .1 .1 .0, length-replicate {A = ℕ} 512 0),
+            second-begins (first-goes (r .run .ensures blank refl (zeros s)) (e .enum-told .given .1)),
+          ),
         ),
       ),
     )
@@ -108,11 +132,12 @@ same-length-6 c = search needs
 
 returns-2 : tie.Need-returns-2
 returns-2 c =
-    let r = c .before .before .before .before .before .before .before .before .before .before .before .before .before .before .before .before .before .before .before .before .before in
-    let s = r .before .before .before .before .before .before .before .before .before .before .before .before .before .before .before in
-    let E = r .run .ensures blank refl (zeros-remembered (s .pre .1 .1 .0) (s .pre .1 .1 .1)) in
-    let H = first-goes E (c .before .before .before .before .before .before .before .before .before .before .before .before .enum-told .given .1) in
-    second-ends H (c .before .before .before .before .before .before .before .run2 .ensures (again (H .memory .kept)) (H .memory .kept, refl, H .inferred) (H .remembers)) (E .same-forms) (E .same-whats) (E .same-out)
+    let t = second c in
+    let e : tie.After-enum-told = search in
+    let r = first (t .before) in
+    let E = r .run .ensures blank refl (zeros (start (counts (r .before)))) in
+    let H = first-goes E (e .enum-told .given .1) in
+    second-ends H (t .run2 .ensures (again (H .memory .kept)) (H .memory .kept, refl, H .inferred) (H .remembers)) (E .same-forms) (E .same-whats) (E .same-out)
 
 pub analyse-spec : {M : Type 1} → statement M
 analyse-spec =

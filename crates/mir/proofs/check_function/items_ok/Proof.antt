@@ -7,7 +7,7 @@ use borrow.Author.Needs.{needs}
 use borrow.Author.Tests.{not-true, not-false}
 use Rattle.model.specs.Function.{nitems, after, items-from, items-ok}
 use Rattle.mir.proofs.Follows.{after-most}
-use Rattle.mir.proofs.Items.{Turn, turn-begun, turn-same, items-torn, items-over}
+use Rattle.mir.proofs.Turns.{Turn, turn-begun, turn-same, items-torn, items-over}
 use Rattle.mir.proofs.check_function.items_ok.Statement.{statement}
 use Rattle.mir.proofs.check_function.items_ok.Tie as tie
 

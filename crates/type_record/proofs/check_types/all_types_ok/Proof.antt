@@ -27,7 +27,8 @@ loop-holds c = all-none _
 
 type-ok-requires : tie.Need-type-ok-requires Inv-loop μ-loop
 type-ok-requires c κs =
-    let p = c .before .before .before .before .before .before .pre in
+    let start : tie.Start Inv-loop μ-loop = search in
+    let p = start .pre in
     (p .0, (p .1, (omega arith, c .before .loop .inv)))
 
 returns : tie.Need-returns Inv-loop μ-loop
@@ -41,7 +42,9 @@ loop-less : tie.Need-loop-less Inv-loop μ-loop
 loop-less c = omega arith
 
 loop-again : tie.Need-loop-again Inv-loop μ-loop
-loop-again c = all-more _ _ (c .before .before .before .loop .inv) (c .before .type-ok .ensures) (c .if1 .left)
+loop-again c =
+    let loop′ : tie.At-loop Inv-loop μ-loop = search in
+    all-more _ _ (loop′ .loop .inv) (c .before .type-ok .ensures) (c .if1 .left)
 
 returns-2 : tie.Need-returns-2 Inv-loop μ-loop
 unfolding all-types-ok

@@ -49,14 +49,16 @@ same-length c = search needs
 
 returns-2 : tie.Need-returns-2
 returns-2 c =
-    let f = c .before .before .before in
+    let fill-offsets′ : tie.After-fill-offsets = search in
+    let f = fill-offsets′ in
     let d = f .before .before in
     let g = f .fill-offsets .ensures in
     (no-counts _ _ (d .before .type-sizes .ensures) (d .if1 .left) _ (g .0) (c .if2 .taken), (λ e. absurd (true≢false (sym e)), g .1 .1))
 
 all-types-ok-requires : tie.Need-all-types-ok-requires
 all-types-ok-requires c κs =
-    let f = c .before .before .before .before in
+    let fill-offsets′ : tie.After-fill-offsets = search in
+    let f = fill-offsets′ in
     let d = f .before .before in
     let g = f .fill-offsets .ensures in
     (counted _ _ (d .before .type-sizes .ensures) (d .if1 .left) _ (g .0) (c .before .if2 .left), g .1 .0 (not-false _ (c .before .if2 .left)))
@@ -66,10 +68,12 @@ same-length-2 c = search needs
 
 returns-3 : tie.Need-returns-3
 returns-3 c =
-    let f = c .before .before .before .before .before in
+    let else2 : tie.Else2 = search in
+    let fill-offsets′ : tie.After-fill-offsets = search in
+    let f = fill-offsets′ in
     let d = f .before .before in
     let g = f .fill-offsets .ensures in
-    let h = c .before .before .if2 .left in
+    let h = else2 .if2 .left in
     (c .all-types-ok .ensures ∙ decides _ _ (d .before .type-sizes .ensures) (d .if1 .left) _ (g .0) h, (λ e. g .1 .0 (not-false _ h), g .1 .1))
 
 pub check-types-spec : {M : Type 1} → statement M

@@ -30,7 +30,9 @@ kind-of-requires : tie.Need-kind-of-requires
 kind-of-requires c κs = search needs
 
 returns-2 : tie.Need-returns-2
-returns-2 c = early _ _ _ _ (c .before .before .part-at .ensures) _ (c .kind-of .ensures) (c .before .if1 .left)
+returns-2 c =
+    let part-at′ : tie.After-part-at = search in
+    early _ _ _ _ (part-at′ .part-at .ensures) _ (c .kind-of .ensures) (c .before .if1 .left)
 
 pub field-ok-spec : {M : Type 1} → statement M
 field-ok-spec = tie.close (tie.spec part-at-requires returns kind-of-requires returns-2)

@@ -50,12 +50,14 @@ loop-holds c = (omega arith, begins _ _ _)
 
 field-ok-requires : tie.Need-field-ok-requires Inv-loop μ-loop
 field-ok-requires c κs =
-    let p = c .before .before .before .before .before .pre in
+    let start : tie.Start Inv-loop μ-loop = search in
+    let p = start .pre in
     (p .0, (p .1 .0, (p .1 .1, omega arith)))
 
 returns : tie.Need-returns Inv-loop μ-loop
 returns c =
-    let i = c .before .before .before .loop in
+    let loop′ : tie.At-loop Inv-loop μ-loop = search in
+    let i = loop′ .loop in
     stop _ _ _ (i .j) (i .inv .0) (c .before .field-ok .ensures) (omega arith) (c .if1 .taken)
 
 add-j : tie.Need-add-j Inv-loop μ-loop
@@ -66,7 +68,8 @@ loop-less c = omega arith
 
 loop-again : tie.Need-loop-again Inv-loop μ-loop
 loop-again c =
-    let i = c .before .before .before .loop in
+    let loop′ : tie.At-loop Inv-loop μ-loop = search in
+    let i = loop′ .loop in
     (omega arith, more _ _ _ (i .j) (i .inv .0) (c .before .field-ok .ensures) (i .inv .1) (c .if1 .left))
 
 returns-2 : tie.Need-returns-2 Inv-loop μ-loop

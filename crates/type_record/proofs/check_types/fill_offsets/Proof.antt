@@ -109,13 +109,18 @@ sub-if1 : tie.Need-sub-if1 Inv-loop μ-loop
 sub-if1 c = omega arith
 
 same-length : tie.Need-same-length Inv-loop μ-loop
-same-length c = simp length-set (c .before .before .before .loop .inv .long)
+same-length c =
+    let loop′ : tie.At-loop Inv-loop μ-loop = search in
+    simp length-set (loop′ .loop .inv .long)
 
 returns : tie.Need-returns Inv-loop μ-loop
 returns c =
-    let h = c .before .before .before .loop .inv in
-    let l : c .before .before .before .loop .t < ntypes (c .before .before .before .before .before .before .before .before .before .args .types .now) = omega arith in (
-      stop h l _ (count-word _ _ _ (c .before .before .before .before .before .wide .ensures)) (c .if1 .taken),
+    let loop′ : tie.At-loop Inv-loop μ-loop = search in
+    let wide′ : tie.After-wide Inv-loop μ-loop = search in
+    let start : tie.Start Inv-loop μ-loop = search in
+    let h = loop′ .loop .inv in
+    let l : loop′ .loop .t < ntypes (start .args .types .now) = omega arith in (
+      stop h l _ (count-word _ _ _ (wide′ .wide .ensures)) (c .if1 .taken),
       (λ e. absurd (true≢false (sym e)), drop-set-lt _ _ _ _ l ∙ h .rest),
     )
 
@@ -130,7 +135,9 @@ loop-less c = omega arith
 
 loop-again : tie.Need-loop-again Inv-loop μ-loop
 loop-again c =
-    more (c .before .before .before .loop .inv) (omega arith) _ (count-word _ _ _ (c .before .before .before .before .before .wide .ensures)) (omega arith) (c .if1 .left)
+    let loop′ : tie.At-loop Inv-loop μ-loop = search in
+    let wide′ : tie.After-wide Inv-loop μ-loop = search in
+    more (loop′ .loop .inv) (omega arith) _ (count-word _ _ _ (wide′ .wide .ensures)) (omega arith) (c .if1 .left)
 
 same-length-2 : tie.Need-same-length-2 Inv-loop μ-loop
 same-length-2 c = c .before .loop .inv .long

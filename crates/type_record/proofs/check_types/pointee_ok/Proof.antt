@@ -34,7 +34,8 @@ returns c = not-one _ _ _ (c .before .count-of .ensures) (c .if1 .taken)
 
 part-at-requires : tie.Need-part-at-requires
 part-at-requires c κs =
-    let p = c .before .before .before .before .pre in
+    let start : tie.Start = search in
+    let p = start .pre in
     (p .0, (p .1 .0, (p .1 .1, omega arith)))
 
 shared-slice-read-wide : tie.Need-shared-slice-read-wide
@@ -45,8 +46,10 @@ wide-requires c κs = search needs
 
 returns-2 : tie.Need-returns-2
 returns-2 c =
-    let a = c .before .before .before .before in
-    late _ _ _ (a .before .count-of .ensures) (a .if1 .left) _ _ (c .before .before .before .part-at .ensures) (c .before .wide .ensures) (c .if2 .taken)
+    let part-at′ : tie.After-part-at = search in
+    let else1 : tie.Else1 = search in
+    let a = else1 in
+    late _ _ _ (a .before .count-of .ensures) (a .if1 .left) _ _ (part-at′ .part-at .ensures) (c .before .wide .ensures) (c .if2 .taken)
 
 kind-of-requires : tie.Need-kind-of-requires
 kind-of-requires c κs = search needs

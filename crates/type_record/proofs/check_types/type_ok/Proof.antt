@@ -87,7 +87,10 @@ count-of-requires-2 : tie.Need-count-of-requires-2
 count-of-requires-2 c κs = search needs
 
 returns : tie.Need-returns
-returns c = bare _ _ _ (c .before .before .before .kind-of .ensures) _ (c .before .count-of2 .ensures) (c .if1 .taken) (c .before .before .match .keys3)
+returns c =
+    let match-keys3 : tie.At-match-keys3 = search in
+    let kind-of′ : tie.After-kind-of = search in
+    bare _ _ _ (kind-of′ .kind-of .ensures) _ (c .before .count-of2 .ensures) (c .if1 .taken) (match-keys3 .match .keys3)
 
 fields-ok-requires : tie.Need-fields-ok-requires
 fields-ok-requires c κs = search needs
@@ -99,36 +102,45 @@ fields-ok-requires-2 : tie.Need-fields-ok-requires-2
 fields-ok-requires-2 c κs = search needs
 
 returns-2 : tie.Need-returns-2
-returns-2 c = empty _ _ _ (c .before .before .kind-of .ensures) _ (c .count-of .ensures) (c .before .match .keys1)
+returns-2 c =
+    let kind-of′ : tie.After-kind-of = search in
+    empty _ _ _ (kind-of′ .kind-of .ensures) _ (c .count-of .ensures) (c .before .match .keys1)
 
 returns-3 : tie.Need-returns-3
-returns-3 c = c .variants-ok .ensures ∙ enum _ _ _ (c .before .before .kind-of .ensures) (c .before .match .keys2)
+returns-3 c =
+    let kind-of′ : tie.After-kind-of = search in
+    c .variants-ok .ensures ∙ enum _ _ _ (kind-of′ .kind-of .ensures) (c .before .match .keys2)
 
 returns-4 : tie.Need-returns-4
 returns-4 c =
-    let a = c .before .before in
+    let count-of2′ : tie.After-count-of2 = search in
+    let a = count-of2′ in
     c .fields-ok .ensures
     ∙ variant _ _ _ (a .before .before .kind-of .ensures) _ (a .count-of2 .ensures) (c .before .if1 .left) (a .before .match .keys3)
 
 returns-5 : tie.Need-returns-5
 returns-5 c =
-    let m = c .before .before in
+    let match-rest : tie.At-match-rest = search in
+    let m = match-rest in
     let k = m .before .kind-of .result in
     let f : k ≢ 0 = λ e. m .match .rest .0 .0 .1 (inl e) in
     c .pointee-ok .ensures ∙ asked-is _ _ k (m .before .kind-of .ensures) (asked-pointer _ _ k (omega arith) (c .before .if2 .taken))
 
 returns-6 : tie.Need-returns-6
 returns-6 c =
-    let m = c .before .before .before in
+    let else2 : tie.Else2 = search in
+    let match-rest : tie.At-match-rest = search in
+    let m = match-rest in
     let k = m .before .kind-of .result in
     let r = m .match .rest in
     c .fields-ok2 .ensures
     ∙ asked-is _ _ k (m .before .kind-of .ensures)
-    (asked-fields _ _ k (λ e. r .0 .0 .1 (inr e)) (r .0 .1) (r .1) (c .before .before .if2 .left) (c .before .if3 .taken))
+    (asked-fields _ _ k (λ e. r .0 .0 .1 (inr e)) (r .0 .1) (r .1) (else2 .if2 .left) (c .before .if3 .taken))
 
 returns-7 : tie.Need-returns-7
 returns-7 c =
-    let m = c .before .before in
+    let match-rest : tie.At-match-rest = search in
+    let m = match-rest in
     asked-is _ _ _ (m .before .kind-of .ensures) (asked-unknown _ _ _ (c .if3 .left))
 
 pub type-ok-spec : {M : Type 1} → statement M

@@ -51,7 +51,11 @@ add-result-3 : tie.Need-add-result-3
 add-result-3 c = search needs
 
 returns-5 : tie.Need-returns-5
-returns-5 c = length-decides _ _ _ (c .before .before .before .before .before .wide .ensures) (c .before .before .before .wide2 .ensures) (c .before .before .if2 .left) (c .before .if3 .left) (c .if4 .left)
+returns-5 c =
+    let else2 : tie.Else2 = search in
+    let wide2′ : tie.After-wide2 = search in
+    let wide′ : tie.After-wide = search in
+    length-decides _ _ _ (wide′ .wide .ensures) (wide2′ .wide2 .ensures) (else2 .if2 .left) (c .before .if3 .left) (c .if4 .left)
 
 pub type-sizes-spec : {M : Type 1} → statement M
 type-sizes-spec =

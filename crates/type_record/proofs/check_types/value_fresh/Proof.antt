@@ -39,7 +39,8 @@ done Γ t j i l a = all-done (differs Γ t j) j i l a
 
 discriminant-requires : tie.Need-discriminant-requires Inv-loop μ-loop
 discriminant-requires c κs =
-    let p = c .before .before .pre in
+    let start : tie.Start Inv-loop μ-loop = search in
+    let p = start .pre in
     (p .0, (p .1 .0, (p .1 .1 .0, (p .1 .1 .1 .1 .0, variant-room _ _ _ (p .1 .1 .1 .0) (p .1 .1 .0) (p .1 .1 .1 .1 .1 .1)))))
 
 loop-holds : tie.Need-loop-holds Inv-loop μ-loop
@@ -47,12 +48,15 @@ loop-holds c = (omega arith, all-none _)
 
 discriminant-requires-2 : tie.Need-discriminant-requires-2 Inv-loop μ-loop
 discriminant-requires-2 c κs =
-    let p = c .before .before .before .before .before .pre in
+    let start : tie.Start Inv-loop μ-loop = search in
+    let p = start .pre in
     (p .0, (p .1 .0, (p .1 .1 .0, (omega arith, variant-room _ _ _ (p .1 .1 .1 .0) (p .1 .1 .0) (variant-below _ _ _ _ (p .1 .1 .1 .1 .1 .0) (c .loop-test .taken))))))
 
 returns : tie.Need-returns Inv-loop μ-loop
 returns c =
-    same _ _ _ _ _ _ (c .before .before .before .before .discriminant .ensures) (c .before .discriminant2 .ensures) (c .if1 .taken) (c .before .before .loop-test .taken)
+    let in-loop : tie.In-loop Inv-loop μ-loop = search in
+    let discriminant′ : tie.After-discriminant Inv-loop μ-loop = search in
+    same _ _ _ _ _ _ (discriminant′ .discriminant .ensures) (c .before .discriminant2 .ensures) (c .if1 .taken) (in-loop .loop-test .taken)
 
 add-i : tie.Need-add-i Inv-loop μ-loop
 add-i c = omega arith
@@ -62,7 +66,9 @@ loop-less c = omega arith
 
 loop-again : tie.Need-loop-again Inv-loop μ-loop
 loop-again c =
-    (omega arith, other _ _ _ _ _ _ (c .before .before .before .before .discriminant .ensures) (c .before .discriminant2 .ensures) (c .if1 .left) (c .before .before .before .loop .inv .1))
+    let loop′ : tie.At-loop Inv-loop μ-loop = search in
+    let discriminant′ : tie.After-discriminant Inv-loop μ-loop = search in
+    (omega arith, other _ _ _ _ _ _ (discriminant′ .discriminant .ensures) (c .before .discriminant2 .ensures) (c .if1 .left) (loop′ .loop .inv .1))
 
 returns-2 : tie.Need-returns-2 Inv-loop μ-loop
 returns-2 c = done _ _ _ _ (c .loop-test .left) (c .before .loop .inv .1)

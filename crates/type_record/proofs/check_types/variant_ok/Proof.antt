@@ -41,12 +41,14 @@ kind-of-requires c κs = search needs
 
 returns-2 : tie.Need-returns-2
 returns-2 c =
-    let a = c .before .before in
+    let else1 : tie.Else1 = search in
+    let a = else1 in
     other _ _ _ _ (a .before .part-at .ensures) (a .if1 .left) _ (c .before .kind-of .ensures) (omega arith)
 
 value-fresh-requires : tie.Need-value-fresh-requires
 value-fresh-requires c κs =
-    let a = c .before .before in
+    let else1 : tie.Else1 = search in
+    let a = else1 in
     let p = a .before .before .before .before .pre in
     let q = p .1 .1 .1 in
     let v = variant _ _ _ _ (a .before .part-at .ensures) (a .if1 .left) _ (c .before .kind-of .ensures) (c .if2 .left) in
@@ -54,8 +56,10 @@ value-fresh-requires c κs =
 
 returns-3 : tie.Need-returns-3
 returns-3 c =
-    let a = c .before .before .before in
-    fresh _ _ _ _ (a .before .part-at .ensures) (a .if1 .left) _ (c .before .before .kind-of .ensures) (c .before .if2 .left) _ (c .value-fresh .ensures)
+    let kind-of′ : tie.After-kind-of = search in
+    let else1 : tie.Else1 = search in
+    let a = else1 in
+    fresh _ _ _ _ (a .before .part-at .ensures) (a .if1 .left) _ (kind-of′ .kind-of .ensures) (c .before .if2 .left) _ (c .value-fresh .ensures)
 
 pub variant-ok-spec : {M : Type 1} → statement M
 variant-ok-spec =

@@ -16,11 +16,15 @@ not-fielded k a b c d = rw (ne-eqb k 5 a, ne-eqb k 6 b, ne-eqb k 9 c, ne-eqb k 1
 
 returns : tie.Need-returns
 unfolding fielded
-returns c = ranged (λ j. true ≡ fielded j) 5 2 (c .before .before .args .k) (omega arith) (omega arith) (refl, (refl, tt))
+returns c =
+    let start : tie.Start = search in
+    ranged (λ j. true ≡ fielded j) 5 2 (start .args .k) (omega arith) (omega arith) (refl, (refl, tt))
 
 returns-2 : tie.Need-returns-2
 unfolding fielded
-returns-2 c = ranged (λ j. true ≡ fielded j) 9 2 (c .before .before .before .before .args .k) (omega arith) (omega arith) (refl, (refl, tt))
+returns-2 c =
+    let start : tie.Start = search in
+    ranged (λ j. true ≡ fielded j) 9 2 (start .args .k) (omega arith) (omega arith) (refl, (refl, tt))
 
 returns-3 : tie.Need-returns-3
 returns-3 c = not-fielded _ (omega arith) (omega arith) (omega arith) (omega arith)

@@ -34,7 +34,9 @@ returns-3 c = rw (c .match .keys3)
 
 returns-4 : tie.Need-returns-4
 unfolding form
-returns-4 c = ranged (λ j. 1 ≡ form j) 1 3 (c .before .before .before .args .k) (omega arith) (omega arith) (refl, (refl, (refl, tt)))
+returns-4 c =
+    let start : tie.Start = search in
+    ranged (λ j. 1 ≡ form j) 1 3 (start .args .k) (omega arith) (omega arith) (refl, (refl, (refl, tt)))
 
 returns-5 : tie.Need-returns-5
 unfolding form
@@ -42,14 +44,20 @@ returns-5 c = ranged (λ j. 2 ≡ form j) 6 2 (c .before .before .before .before
 
 returns-6 : tie.Need-returns-6
 unfolding form
-returns-6 c = ranged (λ j. 0 ≡ form j) 0 1 (c .before .before .args .k) (omega arith) (omega arith) (refl, tt)
+returns-6 c =
+    let start : tie.Start = search in
+    ranged (λ j. 0 ≡ form j) 0 1 (start .args .k) (omega arith) (omega arith) (refl, tt)
 
 returns-7 : tie.Need-returns-7
 unfolding form
-returns-7 c = ranged (λ j. 0 ≡ form j) 4 1 (c .before .before .before .before .args .k) (omega arith) (omega arith) (refl, tt)
+returns-7 c =
+    let start : tie.Start = search in
+    ranged (λ j. 0 ≡ form j) 4 1 (start .args .k) (omega arith) (omega arith) (refl, tt)
 
 returns-8 : tie.Need-returns-8
-returns-8 c = let r = c .before .before .before .before .match .rest in no-form _ (c .if4 .left) (r .0 .0 .1) (r .0 .1)
+returns-8 c =
+    let match-rest : tie.At-match-rest = search in
+    let r = match-rest .match .rest in no-form _ (c .if4 .left) (r .0 .0 .1) (r .0 .1)
 
 pub form-of-spec : {M : Type 1} → statement M
 form-of-spec =

@@ -22,7 +22,9 @@ returns-2 : tie.Need-returns-2
 returns-2 c = let r = c .before .match .rest in not-sticky _ _ (r .0 .1) (r .1) (omega arith) (omega arith)
 
 returns-3 : tie.Need-returns-3
-returns-3 c = let r = c .before .before .match .rest in not-sticky _ _ (r .0 .1) (r .1) (omega arith) (omega arith)
+returns-3 c =
+    let match-rest : tie.At-match-rest = search in
+    let r = match-rest .match .rest in not-sticky _ _ (r .0 .1) (r .1) (omega arith) (omega arith)
 
 returns-4 : tie.Need-returns-4
 unfolding sticky
@@ -30,7 +32,9 @@ returns-4 c = rw (c .match .keys1)
 
 returns-5 : tie.Need-returns-5
 unfolding sticky
-returns-5 c = ranged (λ j. true ≡ sticky (c .before .before .before .args .m) j) 9 2 (c .before .before .before .args .k) (omega arith) (omega arith) (refl, (refl, tt))
+returns-5 c =
+    let start : tie.Start = search in
+    ranged (λ j. true ≡ sticky (start .args .m) j) 9 2 (start .args .k) (omega arith) (omega arith) (refl, (refl, tt))
 
 pub sticky-spec : {M : Type 1} → statement M
 sticky-spec = tie.close (tie.spec returns returns-2 returns-3 returns-4 returns-5)

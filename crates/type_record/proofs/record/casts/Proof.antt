@@ -31,13 +31,19 @@ count-of-requires : tie.Need-count-of-requires
 count-of-requires c κs = search needs
 
 returns : tie.Need-returns
-returns c = enum _ _ _ _ (c .before .before .kind-of .ensures) _ (c .count-of .ensures) (c .before .if1 .taken)
+returns c =
+    let kind-of′ : tie.After-kind-of = search in
+    enum _ _ _ _ (kind-of′ .kind-of .ensures) _ (c .count-of .ensures) (c .before .if1 .taken)
 
 returns-2 : tie.Need-returns-2
-returns-2 c = struct _ _ _ _ (c .before .before .kind-of .ensures) (c .if2 .taken)
+returns-2 c =
+    let kind-of′ : tie.After-kind-of = search in
+    struct _ _ _ _ (kind-of′ .kind-of .ensures) (c .if2 .taken)
 
 returns-3 : tie.Need-returns-3
-returns-3 c = other _ _ _ _ (c .before .before .kind-of .ensures) (c .before .if1 .left) (c .if2 .left)
+returns-3 c =
+    let kind-of′ : tie.After-kind-of = search in
+    other _ _ _ _ (kind-of′ .kind-of .ensures) (c .before .if1 .left) (c .if2 .left)
 
 pub casts-spec : {M : Type 1} → statement M
 casts-spec = tie.close (tie.spec kind-of-requires count-of-requires returns returns-2 returns-3)

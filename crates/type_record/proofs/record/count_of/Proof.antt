@@ -31,8 +31,10 @@ wide-requires-2 c κs = search needs
 returns : tie.Need-returns
 unfolding count
 returns c =
-    let a = c .before .before .before .before .before .args in
-    c .wide2 .ensures ∙ ap (λ (n : ℕ). getD (a .types .now) (2 + n + a .t) 0) (c .before .before .wide .ensures)
+    let wide′ : tie.After-wide = search in
+    let start : tie.Start = search in
+    let a = start .args in
+    c .wide2 .ensures ∙ ap (λ (n : ℕ). getD (a .types .now) (2 + n + a .t) 0) (wide′ .wide .ensures)
 
 pub count-of-spec : {M : Type 1} → statement M
 count-of-spec =

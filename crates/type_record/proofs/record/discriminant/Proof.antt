@@ -11,13 +11,15 @@ part-at-requires c κs = search needs
 
 part-at-requires-2 : tie.Need-part-at-requires-2
 part-at-requires-2 c κs =
-    let p = c .before .before .before .pre in
+    let start : tie.Start = search in
+    let p = start .pre in
     rw (c .part-at .ensures) (p .0, (p .1 .0, p .1 .1 .1 .1))
 
 returns : tie.Need-returns
 unfolding discriminant
 returns c =
-    let a = c .before .before .before .before .args in
+    let start : tie.Start = search in
+    let a = start .args in
     c .part-at2 .ensures ∙ ap (λ (u : ℕ). part (a .types .now) u 0) (c .before .part-at .ensures)
 
 pub discriminant-spec : {M : Type 1} → statement M

@@ -10,11 +10,14 @@ kind-of-requires c κs = search needs
 
 part-at-requires : tie.Need-part-at-requires
 part-at-requires c κs =
-    let p = c .before .before .before .before .pre in
+    let start : tie.Start = search in
+    let p = start .pre in
     (p .0, (p .1 .0, (p .1 .1 .0, p .1 .1 .1 (sym (c .before .kind-of .ensures) ∙ c .if1 .taken))))
 
 returns : tie.Need-returns
-returns c = c .part-at .ensures ∙ sym (owner-enum _ _ _ (sym (c .before .before .kind-of .ensures) ∙ c .before .if1 .taken))
+returns c =
+    let kind-of′ : tie.After-kind-of = search in
+    c .part-at .ensures ∙ sym (owner-enum _ _ _ (sym (kind-of′ .kind-of .ensures) ∙ c .before .if1 .taken))
 
 returns-2 : tie.Need-returns-2
 returns-2 c = sym (owner-other _ _ _ (λ e. c .if1 .left (c .before .kind-of .ensures ∙ e)))

@@ -12,7 +12,8 @@ use Rattle.type_record.proofs.record.part_at.Tie as tie
 index : (c : tie.After-wide2) → let s = c .before .before .before .before .before .before .args in
     2 + c .before .before .wide .result + c .before .before .wide .result + c .wide2 .result + s .j < length (s .types .now)
 index c =
-    let s = c .before .before .before .before .before .before in
+    let start : tie.Start = search in
+    let s = start in
     let p = s .pre in
     omega (arith, part-inside (p .0) (s .args .t) (s .args .j) (p .1 .1 .0) (p .1 .1 .1), p .1 .0 .right (s .args .t) (p .1 .1 .0))
 
@@ -55,11 +56,14 @@ wide-requires-3 c κs = search needs
 returns : tie.Need-returns
 unfolding part
 returns c =
-    let s = c .before .before .before .before .before .before .before .before in
+    let wide2′ : tie.After-wide2 = search in
+    let wide′ : tie.After-wide = search in
+    let start : tie.Start = search in
+    let s = start in
     let p = s .pre in
     c .wide3 .ensures
-    ∙ ap₂ (λ (n o : ℕ). getD (s .args .types .now) (2 + n + n + o + s .args .j) 0) (c .before .before .before .before .wide .ensures)
-    (c .before .before .wide2 .ensures ∙ p .1 .0 .right (s .args .t) (p .1 .1 .0))
+    ∙ ap₂ (λ (n o : ℕ). getD (s .args .types .now) (2 + n + n + o + s .args .j) 0) (wide′ .wide .ensures)
+    (wide2′ .wide2 .ensures ∙ p .1 .0 .right (s .args .t) (p .1 .1 .0))
 
 pub part-at-spec : {M : Type 1} → statement M
 part-at-spec =

@@ -1,27 +1,62 @@
--- `visit::block::begin` meets its contract: the start block is a join point, where the state arrives, or is entered. Assumes nothing.
+-- `visit::block::begin` meets its contract: the start block is a join point, or is entered as the first of a way. Assumes nothing.
 use borrow.Author.Needs.{needs}
-use mathlib.Core.Path.{_≡_, sym, _∙_}
-use mathlib.Core.Bool.{true}
-use Prim.Native.Nat.{suc, _-_}
+use mathlib.Core.Path.{_≡_, sym, subst, _∙_}
+use mathlib.Core.Bool.{true, false}
+use Prim.Native.Nat.{ℕ, suc, _-_}
 use native.Mathlib.Omega.{arith}
 use Rattle.model.specs.Function.{nblocks}
+use Rattle.model.specs.Block.{is-join-point}
+use Rattle.blocks.proofs.Spots.{formed-accepted}
+use Rattle.solver.specs.Fuel.{root-start}
+use Rattle.visit.specs.Ways.{Come}
 use Rattle.visit.specs.Visits.{exit}
 use Rattle.visit.proofs.Shelves.{share-joins, none-joins}
+use Rattle.visit.proofs.Ways.{root-come}
 use Rattle.visit.proofs.Steps.{jumps-meet, jumps-enter}
 use Rattle.visit.proofs.block.begin.Statement.{statement}
 use Rattle.visit.proofs.block.begin.Tie as tie
 
-shared-slice-read-wide : tie.Need-shared-slice-read-wide
-shared-slice-read-wide c = search needs
+-- from each place back
+abbrev meets : tie.Then1 → tie.Start
+meets h = search
 
-wide-requires : tie.Need-wide-requires
-wide-requires c κs = search needs
+abbrev met : tie.After-meet → tie.Then1
+met r = search
+
+abbrev enters : tie.Else1 → tie.Start
+enters h = search
+
+abbrev counted : tie.Else1 → tie.After-nblocks
+counted h = search
+
+abbrev entered : tie.After-basic-block → tie.Else1
+entered r = search
+
+-- the start block is a join point
+joins : (h : tie.Then1) → is-join-point (meets h .args .fun .now) 0 ≡ true
+joins h = let p = meets h .pre in share-joins _ _ (λ z. h .if1 .taken (p .1 .0 .numbers 0 (p .1 .1 .1 .0 .1) ∙ z))
+
+-- or none
+apart : (h : tie.Else1) → is-join-point (enters h .args .fun .now) 0 ≡ false
+apart h = let p = enters h .pre in none-joins _ _ (sym (p .1 .0 .numbers 0 (p .1 .1 .1 .0 .1)) ∙ h .if1 .left)
+
+-- and a way begins there
+come : (h : tie.Else1) → Come (enters h .args .types .now) (enters h .args .fun .now) (record { block = 0; left = counted h .nblocks .result - 1 })
+come h =
+    let z = enters h in
+    subst (λ (n : ℕ). Come (z .args .types .now) (z .args .fun .now) (record { block = 0; left = n - 1 })) (sym (counted h .nblocks .ensures)) (root-come (formed-accepted (z .pre .0 .formed)) root-start)
+
+nblocks-requires : tie.Need-nblocks-requires
+nblocks-requires c κs = search needs
+
+shared-slice-read-if1 : tie.Need-shared-slice-read-if1
+shared-slice-read-if1 c = search needs
 
 meet-requires : tie.Need-meet-requires
 meet-requires c κs =
-    let p = c .before .before .before .before .before .before .before .before .before .before .before .before .before .before .before .before .before .before .pre in
-    let e = c .before .before .before .before .before .before .wide .ensures ∙ p .1 .0 .numbers _ (p .1 .1 .1 .0 .1) in
-    (p .0, (p .1 .1 .0, (p .1 .1 .1 .0, ((share-joins _ _ (λ z. c .before .before .before .before .before .if1 .taken (e ∙ z)), e), p .1 .1 .1 .1))))
+    let h : tie.Then1 = search in
+    let p = meets h .pre in
+    (p .0, (p .1 .0, (p .1 .1 .0, (p .1 .1 .1 .0, (joins h, p .1 .1 .1 .1)))))
 
 same-length : tie.Need-same-length
 same-length c = search needs
@@ -40,22 +75,20 @@ same-length-5 c = search needs
 
 returns : tie.Need-returns
 returns c = λ m E R N H.
-    let a = c .before .before .before .before .before .before .before .before .before .before .before .before .before .before .before .before .before .before .before .before .before .before .before .before .before .before .before .before .before .args in
-    let p = c .before .before .before .before .before .before .before .before .before .before .before .before .before .before .before .before .before .before .before .before .before .before .before .before .before .before .before .before .before .pre in
-    let e = c .before .before .before .before .before .before .before .before .before .before .before .before .before .before .before .before .before .wide .ensures ∙ p .1 .0 .numbers _ (p .1 .1 .1 .0 .1) in
-    rw (jumps-meet (a .types .now) (a .fun .now) (a .recording) (nblocks (a .fun .now)) (exit (a .fun .now) true 0 0 E) m (share-joins _ _ (λ z. c .before .before .before .before .before .before .before .before .before .before .before .before .before .before .before .before .if1 .taken (e ∙ z))))
-    (c .before .before .before .before .before .before .before .before .before .before .meet .ensures m E R N H)
+    let r : tie.After-meet = search in
+    let h = met r in
+    let a = meets h .args in
+    rw (jumps-meet (a .types .now) (a .fun .now) (a .o .recording) (nblocks (a .fun .now)) (exit (a .fun .now) true 0 0 E) m (joins h))
+    (r .meet .ensures m E R N H)
 
-nblocks-requires : tie.Need-nblocks-requires
-nblocks-requires c κs = c .before .before .before .before .before .before .before .before .before .before .before .before .before .before .before .before .before .before .pre .0 .formed .laid
-
-sub-basic-block : tie.Need-sub-basic-block
-sub-basic-block c = omega (arith, c .nblocks .ensures, c .before .before .before .before .before .before .before .before .before .before .before .before .before .before .before .before .before .before .before .pre .1 .1 .1 .0 .1)
+sub-t28 : tie.Need-sub-t28
+sub-t28 c = search needs
 
 basic-block-requires : tie.Need-basic-block-requires
 basic-block-requires c κs =
-    let p = c .before .before .before .before .before .before .before .before .before .before .before .before .before .before .before .before .before .before .before .pre in
-    (p .0, (p .1 .0, (p .1 .1 .0, (p .1 .1 .1 .0 .1, p .1 .1 .1 .1))))
+    let h : tie.Else1 = search in
+    let p = enters h .pre in
+    (p .0, (p .1 .0, (p .1 .1 .0, (come h, p .1 .1 .1 .1))))
 
 same-length-6 : tie.Need-same-length-6
 same-length-6 c = search needs
@@ -74,19 +107,19 @@ same-length-10 c = search needs
 
 returns-2 : tie.Need-returns-2
 returns-2 c = λ m E R N H.
-    let a = c .before .before .before .before .before .before .before .before .before .before .before .before .before .before .before .before .before .before .before .before .before .before .before .before .before .before .before .before .before .before .args in
-    let p = c .before .before .before .before .before .before .before .before .before .before .before .before .before .before .before .before .before .before .before .before .before .before .before .before .before .before .before .before .before .before .pre in
-    let e = c .before .before .before .before .before .before .before .before .before .before .before .before .before .before .before .before .before .before .wide .ensures ∙ p .1 .0 .numbers _ (p .1 .1 .1 .0 .1) in
-    let z : suc (c .before .before .before .before .before .before .before .before .before .before .before .nblocks .result - 1) ≡ nblocks (a .fun .now) = omega (arith, c .before .before .before .before .before .before .before .before .before .before .before .nblocks .ensures, p .1 .1 .1 .0 .1) in
-    rw (jumps-enter (a .types .now) (a .fun .now) (a .recording) (nblocks (a .fun .now)) (exit (a .fun .now) true 0 0 E) m (none-joins _ _ (sym e ∙ c .before .before .before .before .before .before .before .before .before .before .before .before .before .before .before .before .before .if1 .left)))
-    (rw z at (c .before .before .before .before .before .before .before .before .before .before .basic-block .ensures m E R N H))
+    let r : tie.After-basic-block = search in
+    let h = entered r in
+    let a = enters h .args in
+    let z : suc (counted h .nblocks .result - 1) ≡ nblocks (a .fun .now) = omega (arith, counted h .nblocks .ensures, enters h .pre .1 .1 .1 .0 .1) in
+    rw (jumps-enter (a .types .now) (a .fun .now) (a .o .recording) (nblocks (a .fun .now)) (exit (a .fun .now) true 0 0 E) m (apart h))
+    (rw z at (r .basic-block .ensures m E R N H))
 
 pub begin-spec : {M : Type 1} → statement M
 begin-spec =
     tie.close
     (tie.spec
-    shared-slice-read-wide
-    wide-requires
+    nblocks-requires
+    shared-slice-read-if1
     meet-requires
     same-length
     same-length-2
@@ -94,8 +127,7 @@ begin-spec =
     same-length-4
     same-length-5
     returns
-    nblocks-requires
-    sub-basic-block
+    sub-t28
     basic-block-requires
     same-length-6
     same-length-7

@@ -1,66 +1,84 @@
 -- `visit::block::meet` meets its contract: the share of the join point lies in the store, and what an arrival leaves there is model's.
 -- Assumes nothing.
 use borrow.Author.Needs.{needs}
-use mathlib.Core.Path.{refl}
+use mathlib.Core.Path.{_≡_, refl, _∙_}
 use mathlib.Core.List.{List}
-use mathlib.Core.Option.{Option}
 use Prim.Native.Nat.{ℕ, _+_, _≤_, _<_}
 use native.Mathlib.Omega.{arith}
 use lib.ListN.{length}
-use Rattle.model.specs.Words.{word}
-use Rattle.model.specs.Tree.{Forest}
-use Rattle.model.specs.Function.{local-types}
-use Rattle.visit.specs.Shares.{Saved, Arrays, arrays}
+use Rattle.blocks.specs.Points.{share-number}
+use Rattle.visit.specs.Visits.{Shelved}
+use Rattle.visit.proofs.Memo.{parts-long, kept-length}
 use Rattle.visit.proofs.Shelves.{points-few, share-most, base, lent-of}
 use Rattle.visit.proofs.Stores.{share-inside, lent-saved}
 use Rattle.visit.proofs.Arrivals.{first-visits, second-visits}
 use Rattle.visit.proofs.block.meet.Statement.{statement}
 use Rattle.visit.proofs.block.meet.Tie as tie
 
--- what is known of the share and of the arrays
-record Room (types fun : List ℕ) (a : Arrays) (c p : ℕ) : Type 0 where
+-- what is known of the share of number p, and of the arrays
+record Room (types fun memo waits forms whats : List ℕ) (c p : ℕ) : Type 0 where
   low : 1 ≤ p
   high : p ≤ 256
-  forms : base p + 512 ≤ length (a .forms)
-  whats : base p + 512 ≤ length (a .whats)
-  kept : c < length (a .kept)
-  visited : c < length (a .visited)
-  waits : c < length (a .waits)
-  saved : (k : Option Forest) × Saved types (local-types fun) (lent-of (a .forms) p) (lent-of (a .whats) p) (word (a .kept) c) k
+  forms-room : base p + 512 ≤ length forms
+  whats-room : base p + 512 ≤ length whats
+  waiting : c < length waits
+  shelved : Shelved types fun memo (lent-of forms p) (lent-of whats p) c
 
--- at the entry
-room : (s : tie.Start) → Room (s .args .types .now) (s .args .fun .now) (arrays (s .args .kept .now) (s .args .visited .now) (s .args .waits .now) (s .args .forms .now) (s .args .whats .now)) (s .args .c) (s .args .p)
-room s =
+-- the beginning, from where the number is read
+abbrev start : tie.After-wide → tie.Start
+start w = search
+
+-- it is the share's
+number : (w : tie.After-wide) → w .wide .result ≡ share-number ((start w) .args .fun .now) ((start w) .args .j .block)
+number w = let s = start w in w .wide .ensures ∙ s .pre .1 .0 .numbers _ (s .pre .1 .1 .1 .0 .1)
+
+-- so there is room
+room : (w : tie.After-wide) → let a = (start w) .args in
+    Room (a .types .now) (a .fun .now) (a .memo .now) (a .waits .now) (a .forms .now) (a .whats .now) (a .j .block) (w .wide .result)
+room w =
+    let s = start w in
     let p = s .pre in
-    let R = p .1 .0 .is in
-    let j = p .1 .1 .1 .0 .0 in
-    let q = p .1 .1 .1 .0 .1 in
-    let l = p .1 .1 .0 .1 in
+    let R = p .1 .1 .0 .is in
+    let j = p .1 .1 .1 .1 .0 in
+    let q = number w in
+    let l = p .1 .1 .1 .0 .1 in
     let few = p .0 .formed .laid .most-blocks in
-    let N = share-most (s .args .fun .now) (s .args .c) l j in
+    let N = share-most (s .args .fun .now) (s .args .j .block) l j in
     let I = share-inside R l j few in
     record {
       low = omega (arith, N .0, q);
       high = omega (arith, N .1, q, few, points-few (s .args .fun .now));
-      forms = rw q (I .0);
-      whats = rw q (I .1);
-      kept = omega (arith, R .long .kept, l, few);
-      visited = omega (arith, R .long .visited, l, few);
-      waits = omega (arith, R .long .waits, l, few);
-      saved = (p .1 .0 .memory .kept (s .args .c), lent-saved R l j few q);
+      forms-room = omega (arith, I .0, q);
+      whats-room = omega (arith, I .1, q);
+      waiting = omega (arith, R .long .waits, l, few);
+      shelved = record {
+        stored = p .1 .1 .0 .memory .kept (s .args .j .block);
+        is = lent-saved R l j few q;
+        block = omega (arith, l, few);
+        long = parts-long (s .args .memo .now) (R .long .kept) (R .long .visited);
+      };
     }
 
+mul-wide : tie.Need-mul-wide
+mul-wide c = search needs
+
+shared-slice-read-wide : tie.Need-shared-slice-read-wide
+shared-slice-read-wide c = search needs
+
+wide-requires : tie.Need-wide-requires
+wide-requires c κs = search needs
+
 sub-a : tie.Need-sub-a
-sub-a c = omega (arith, room (c .before .before .before .before .before .before .before .before .before))
+sub-a c = let w : tie.After-wide = search in omega (arith, room w)
 
 mul-a : tie.Need-mul-a
-mul-a c = record { fits = omega (arith, room (c .before .before .before .before .before .before .before .before .before)) }
+mul-a c = let w : tie.After-wide = search in record { fits = omega (arith, room w) }
 
 add-e : tie.Need-add-e
-add-e c = record { fits = omega (arith, room (c .before .before .before .before .before .before .before .before .before)) }
+add-e c = let w : tie.After-wide = search in record { fits = omega (arith, room w) }
 
 mul-reconcile : tie.Need-mul-reconcile
-mul-reconcile c = record { fits = omega (arith, room (c .before .before .before .before .before .before .before .before .before .before .before .before)) }
+mul-reconcile c = let w : tie.After-wide = search in record { fits = omega (arith, room w) }
 
 sub-reconcile : tie.Need-sub-reconcile
 sub-reconcile c = search needs
@@ -69,10 +87,10 @@ part-reconcile-start : tie.Need-part-reconcile-start
 part-reconcile-start c = search needs
 
 part-reconcile-end : tie.Need-part-reconcile-end
-part-reconcile-end c = (room (c .before .before .before .before .before .before .before .before .before .before .before .before .before)) .forms
+part-reconcile-end c = let w : tie.After-wide = search in (room w) .forms-room
 
 mul-reconcile-2 : tie.Need-mul-reconcile-2
-mul-reconcile-2 c = record { fits = omega (arith, room (c .before .before .before .before .before .before .before .before .before .before .before .before .before .before)) }
+mul-reconcile-2 c = let w : tie.After-wide = search in record { fits = omega (arith, room w) }
 
 sub-reconcile-2 : tie.Need-sub-reconcile-2
 sub-reconcile-2 c = search needs
@@ -81,13 +99,14 @@ part-reconcile-start-2 : tie.Need-part-reconcile-start-2
 part-reconcile-start-2 c = search needs
 
 part-reconcile-end-2 : tie.Need-part-reconcile-end-2
-part-reconcile-end-2 c = (room (c .before .before .before .before .before .before .before .before .before .before .before .before .before .before .before)) .whats
+part-reconcile-end-2 c = let w : tie.After-wide = search in (room w) .whats-room
 
 reconcile-requires : tie.Need-reconcile-requires
 reconcile-requires c κs =
-    let p = c .before .before .before .before .before .before .before .before .before .before .before .before .before .before .before .before .before .pre in
-    let R = room (c .before .before .before .before .before .before .before .before .before .before .before .before .before .before .before .before .before) in
-    (p .0, (p .1 .1 .1 .1, ((R .kept, R .visited, R .waits), (R .saved, (p .1 .1 .0 .0, p .1 .0 .spoken .counted)))))
+    let w : tie.After-wide = search in
+    let p = (start w) .pre in
+    let R = room w in
+    (p .0, (p .1 .1 .1 .1 .1, (R .shelved, (R .waiting, (p .1 .1 .1 .0 .0, p .1 .1 .0 .spoken .counted)))))
 
 same-length : tie.Need-same-length
 same-length c = search needs
@@ -106,17 +125,18 @@ same-length-5 c = search needs
 
 returns : tie.Need-returns
 returns c = λ m E M S H.
-    let a = c .before .before .before .before .before .before .before .before .before .before .before .before .before .before .before .before .before .before .before .before .before .before .args in
-    let p = c .before .before .before .before .before .before .before .before .before .before .before .before .before .before .before .before .before .before .before .before .before .before .pre in
-    let t = c .before .before .before .before .before .before .before .before .before .before .before .before .if1 .taken in
-    let j = p .1 .1 .1 .0 .0 in
-    let l = p .1 .1 .0 .1 in
+    let k : tie.After-reconcile = search in
+    let t : tie.Then1 = search in
+    let w : tie.After-wide = search in
+    let p = (start w) .pre in
+    let j = (start w) .args .j in
+    let l = p .1 .1 .1 .0 .1 in
     let few = p .0 .formed .laid .most-blocks in
-    let f = c .before .before .before .before .reconcile .ensures in
-    rw t (second-visits M l j few (a .i) (a .entry) E (rw t at S) (f .0 (m .kept (a .c)) E (lent-saved M l j few (p .1 .1 .1 .0 .1)) H) (f .1))
+    let f = k .reconcile .ensures in
+    second-visits M l (p .1 .1 .1 .1 .0) few (j .item) (j .entry) E (t .if1 .taken) S (f .0 (m .kept (j .block)) E (lent-saved M l (p .1 .1 .1 .1 .0) few (number w)) H) (f .1)
 
 mul-arrive : tie.Need-mul-arrive
-mul-arrive c = record { fits = omega (arith, room (c .before .before .before .before .before .before .before .before .before .before .before .before)) }
+mul-arrive c = let w : tie.After-wide = search in record { fits = omega (arith, room w) }
 
 sub-arrive : tie.Need-sub-arrive
 sub-arrive c = search needs
@@ -125,10 +145,10 @@ part-arrive-start : tie.Need-part-arrive-start
 part-arrive-start c = search needs
 
 part-arrive-end : tie.Need-part-arrive-end
-part-arrive-end c = (room (c .before .before .before .before .before .before .before .before .before .before .before .before)) .forms
+part-arrive-end c = let w : tie.After-wide = search in (room w) .forms-room
 
 mul-arrive-2 : tie.Need-mul-arrive-2
-mul-arrive-2 c = record { fits = omega (arith, room (c .before .before .before .before .before .before .before .before .before .before .before .before .before)) }
+mul-arrive-2 c = let w : tie.After-wide = search in record { fits = omega (arith, room w) }
 
 sub-arrive-2 : tie.Need-sub-arrive-2
 sub-arrive-2 c = search needs
@@ -137,13 +157,14 @@ part-arrive-start-2 : tie.Need-part-arrive-start-2
 part-arrive-start-2 c = search needs
 
 part-arrive-end-2 : tie.Need-part-arrive-end-2
-part-arrive-end-2 c = (room (c .before .before .before .before .before .before .before .before .before .before .before .before .before)) .whats
+part-arrive-end-2 c = let w : tie.After-wide = search in (room w) .whats-room
 
 arrive-requires : tie.Need-arrive-requires
 arrive-requires c κs =
-    let p = c .before .before .before .before .before .before .before .before .before .before .before .before .before .before .pre in
-    let R = room (c .before .before .before .before .before .before .before .before .before .before .before .before .before .before) in
-    (p .0, (p .1 .1 .1 .1, ((R .kept, R .waits), R .saved)))
+    let w : tie.After-wide = search in
+    let p = (start w) .pre in
+    let R = room w in
+    (p .0, (p .1 .1 .1 .1 .1, (R .shelved, R .waiting)))
 
 same-length-6 : tie.Need-same-length-6
 same-length-6 c = search needs
@@ -159,16 +180,17 @@ same-length-9 c = search needs
 
 returns-2 : tie.Need-returns-2
 returns-2 c = λ m E M S H.
-    let a = c .before .before .before .before .before .before .before .before .before .before .before .before .before .before .before .before .before .before .before .before .before .before .before .before .args in
-    let p = c .before .before .before .before .before .before .before .before .before .before .before .before .before .before .before .before .before .before .before .before .before .before .before .before .pre in
-    let t = c .before .before .before .before .before .before .before .before .before .before .before .before .before .before .if1 .left in
-    let j = p .1 .1 .1 .0 .0 in
-    let q = p .1 .1 .1 .0 .1 in
-    let l = p .1 .1 .0 .1 in
+    let k : tie.After-arrive = search in
+    let t : tie.Else1 = search in
+    let w : tie.After-wide = search in
+    let p = (start w) .pre in
+    let j = (start w) .args .j in
+    let l = p .1 .1 .1 .0 .1 in
     let few = p .0 .formed .laid .most-blocks in
-    let f = c .before .before .before .before .before .before .before .before .before .arrive .ensures in
-    rw (t, q) (first-visits M l j few (a .i) (a .entry) E (rw t at S) (H .trees .fits) (f .0 (m .kept (a .c)) E (lent-saved M l j few q) H)
-    (f .1 .0) (f .1 .1) (rw q at (f .1 .2)) (rw q at (f .1 .3)) (λ e. absurd (c .if2 .taken e)) (λ e. refl))
+    let f = k .arrive .ensures in
+    let q = number w in
+    rw (q, f .1 .visited) (first-visits M l (p .1 .1 .1 .1 .0) few (j .item) (j .entry) E (t .if1 .left) S (H .trees .fits) (f .0 (m .kept (j .block)) E (lent-saved M l (p .1 .1 .1 .1 .0) few q) H)
+    (kept-length ((start w) .args .memo .now) (k .arrive .last .1 .1 .1 .0) (f .1 .memo)) (f .1 .waits) (rw q at (f .1 .forms)) (rw q at (f .1 .whats)) (λ e. absurd (c .if2 .taken e)) (λ e. refl))
 
 same-length-10 : tie.Need-same-length-10
 same-length-10 c = search needs
@@ -184,21 +206,25 @@ same-length-13 c = search needs
 
 returns-3 : tie.Need-returns-3
 returns-3 c = λ m E M S H.
-    let a = c .before .before .before .before .before .before .before .before .before .before .before .before .before .before .before .before .before .before .before .before .before .before .before .before .args in
-    let p = c .before .before .before .before .before .before .before .before .before .before .before .before .before .before .before .before .before .before .before .before .before .before .before .before .pre in
-    let t = c .before .before .before .before .before .before .before .before .before .before .before .before .before .before .if1 .left in
-    let j = p .1 .1 .1 .0 .0 in
-    let q = p .1 .1 .1 .0 .1 in
-    let l = p .1 .1 .0 .1 in
+    let k : tie.After-arrive = search in
+    let t : tie.Else1 = search in
+    let w : tie.After-wide = search in
+    let p = (start w) .pre in
+    let j = (start w) .args .j in
+    let l = p .1 .1 .1 .0 .1 in
     let few = p .0 .formed .laid .most-blocks in
-    let f = c .before .before .before .before .before .before .before .before .before .arrive .ensures in
-    rw (t, q) (first-visits M l j few (a .i) (a .entry) E (rw t at S) (H .trees .fits) (f .0 (m .kept (a .c)) E (lent-saved M l j few q) H)
-    (f .1 .0) (f .1 .1) (rw q at (f .1 .2)) (rw q at (f .1 .3)) (λ e. refl) (λ e. absurd (e (c .if2 .left))))
+    let f = k .arrive .ensures in
+    let q = number w in
+    rw (q, f .1 .visited) (first-visits M l (p .1 .1 .1 .1 .0) few (j .item) (j .entry) E (t .if1 .left) S (H .trees .fits) (f .0 (m .kept (j .block)) E (lent-saved M l (p .1 .1 .1 .1 .0) few q) H)
+    (kept-length ((start w) .args .memo .now) (k .arrive .last .1 .1 .1 .0) (f .1 .memo)) (f .1 .waits) (rw q at (f .1 .forms)) (rw q at (f .1 .whats)) (λ e. refl) (λ e. absurd (e (c .if2 .left))))
 
 pub meet-spec : {M : Type 1} → statement M
 meet-spec =
     tie.close
     (tie.spec
+    mul-wide
+    shared-slice-read-wide
+    wide-requires
     sub-a
     mul-a
     add-e

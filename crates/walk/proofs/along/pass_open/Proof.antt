@@ -1,155 +1,188 @@
 -- `walk::along::pass_open` meets its contract. The loop's invariant: open nodes lead from the tree at the start to the one at i. Assumes nothing.
 use borrow.Author.Needs.{needs}
-use mathlib.Core.Path.{_≡_, sym, _∙_, ap, subst}
-use mathlib.Core.Bool.{true, false}
+use mathlib.Core.Path.{_≡_, subst}
+use mathlib.Core.Logic.{_≢_}
+use mathlib.Core.Bool.{false}
 use mathlib.Core.List.{List, [], _∷_}
 use Prim.Native.Nat.{ℕ, _+_, _-_, _<_, _≤_}
 use native.Mathlib.Omega.{arith}
 use lib.ListN.{length}
 use Rattle.model.specs.Words.{word}
 use Rattle.model.specs.Answer.{Answer, refused}
-use Rattle.model.specs.Tree.{Tree}
+use Rattle.model.specs.Tree.{Tree, leaf}
 use Rattle.model.specs.Place.{stops}
 use Rattle.model.specs.Walk.{walk}
 use Rattle.model.specs.Block.{elem-of}
-use Rattle.laws.specs.Places.{no-index}
 use Rattle.records.specs.Here.{Coded}
 use Rattle.records.specs.Codes.{size-pos}
 use Rattle.records.specs.Coded.{coded-folded, coded-in-forms}
 use Rattle.state.proofs.Fields.{ready-typed}
-use Rattle.walk.specs.Way.{route, Steps, Stepped}
-use Rattle.walk.specs.Site.{rest, Midway}
-use Rattle.walk.specs.declared.step.Step.the-variants.{Refused}
-use Rattle.walk.proofs.Ways.{route-next, no-index-first, no-index-rest}
+use Rattle.walk.specs.Way.{Steps-at}
+use Rattle.walk.specs.Site.{Short, rest, extent, Midway, Passing}
+use Rattle.walk.specs.declared.step.Step.{Step}
+use Rattle.walk.specs.declared.step.Step.the-variants.{To, Refused}
+use Rattle.walk.proofs.Places.{Stopped, extent-stopped, stopped-before, stopped-here, step-here, short-items}
 use Rattle.walk.proofs.Sites.{midway-start, midway-step, midway-refused}
 use Rattle.walk.proofs.along.pass_open.Statement.{statement}
 use Rattle.walk.proofs.along.pass_open.Tie as tie
 
 -- where the walk has come to
-record Turn (Γ fs ws ops args : List ℕ) (end node typ at i t : ℕ) : Type 0 where
+record Turn (Γ fs ws ops args : List ℕ) (node typ at i t : ℕ) : Type 0 where
   least : 1 ≤ at
-  most : at ≤ end
-  plain : no-index (route ops args at (end - at)) ≡ true
+  most : at ≤ extent ops args
   midway : (x : Tree) → Coded Γ fs ws node typ x → Midway Γ fs ws ops args node x at i t
 
-abbrev Inv-loop : tie.InvT-loop
-Inv-loop types offs forms whats ops args end node typ at₀ i₀ t₀ at i t = Turn types forms whats ops args end node typ at i t
+abbrev Inv-walk : tie.InvT-walk
+Inv-walk types offs forms whats ops args node typ n at₀ i₀ t₀ at i t = Turn types forms whats ops args node typ at i t
 
-abbrev μ-loop : tie.MeasureT-loop
-μ-loop types offs forms whats ops args end node typ at₀ i₀ t₀ at i t = end - at
+abbrev μ-walk : tie.MeasureT-walk
+μ-walk types offs forms whats ops args node typ n at₀ i₀ t₀ at i t = length ops - at
 
--- the tree at i, and that i is in the array of forms
-module _ (c : tie.At-loop Inv-loop μ-loop) where
-  standing : let s = c .before .before .before .before .before .before .before in Midway (s .args .types .now) (s .args .forms .now) (s .args .whats .now) (s .args .ops .now) (s .args .args .now) (s .args .node) (s .pre .1 .1 .0 .tree) (c .loop .at) (c .loop .i) (c .loop .t)
-  standing = let s = c .before .before .before .before .before .before .before in c .loop .inv .midway (s .pre .1 .1 .0 .tree) (s .pre .1 .1 .0 .coded)
+module _ {Γ fs ws ops args : List ℕ} {node typ at i t : ℕ} (T : Turn Γ fs ws ops args node typ at i t) where
+  -- it goes no further, or to the end of what is walked
+  turn-done : ((x : Tree) (h : Coded Γ fs ws node typ x) → at < extent ops args → T .midway x h .tree ≡ leaf t)
+      → (x : Tree) → Coded Γ fs ws node typ x → Passing Γ fs ws ops args (extent ops args) node x (record { at = at; node = i; typ = t })
+  turn-done f x h = record { midway = T .midway x h; least = T .least; most = T .most; folded = f x h }
 
-  inside : c .loop .i < length (c .before .before .before .before .before .before .before .args .forms .now)
+  module _ (S : Short ops args) (l : at < length ops) (d : word ops at ≢ 4) where
+    -- the element at hand is a step
+    first-here : stops (elem-of (word ops at) (word args at) ∷ []) ≡ false
+    first-here = step-here ops args (S .is) at (T .least) l d
+
+    -- that leads on
+    turn-more : {s : Step} → Steps-at Γ fs ws i t (elem-of (word ops at) (word args at)) s → {n u : ℕ} → s ≡ To n u → Turn Γ fs ws ops args node typ (at + 1) n u
+    turn-more f e =
+        let g = subst (Steps-at Γ fs ws i t (elem-of (word ops at) (word args at))) e f in
+        record {
+          least = omega (arith, T .least);
+          most = omega (arith, stopped-before (extent-stopped ops args (S .is)) (T .least) (T .most) l d);
+          midway = λ x h. let M = T .midway x h in midway-step M l first-here (g (M .tree) (M .here));
+        }
+
+    -- or is refused
+    turn-refused : {s : Step} → Steps-at Γ fs ws i t (elem-of (word ops at) (word args at)) s → {r : ℕ} → s ≡ Refused r
+        → (x : Tree) → Coded Γ fs ws node typ x → (act : Tree → Answer Tree) → walk Γ act (rest ops args 1) x ≡ refused r
+    turn-refused f e x h =
+        let g = subst (Steps-at Γ fs ws i t (elem-of (word ops at) (word args at))) e f in
+        let M = T .midway x h in
+        midway-refused M l first-here (g (M .tree) (M .here))
+
+module _ (w : tie.At-walk Inv-walk μ-walk) where
+  abbrev start : tie.Start Inv-walk μ-walk
+  start = search
+
+  -- the tree at i
+  standing : let a = start .args in Midway (a .types .now) (a .forms .now) (a .whats .now) (a .ops .now) (a .args .now) (a .node) (start .pre .1 .1 .0 .tree) (w .walk .at) (w .walk .i) (w .walk .t)
+  standing = w .walk .inv .midway (start .pre .1 .1 .0 .tree) (start .pre .1 .1 .0 .coded)
+
+  -- i is in the array of forms
+  inside : w .walk .i < length (start .args .forms .now)
   inside = omega (arith, coded-in-forms (standing .here), size-pos (standing .tree))
 
-module _ {Γ fs ws ops args : List ℕ} {end node typ at i t : ℕ} (T : Turn Γ fs ws ops args end node typ at i t) (l : at < end) (m : end ≤ length ops) where
-  plain-here : no-index (elem-of (word ops at) (word args at) ∷ route ops args (at + 1) (end - (at + 1))) ≡ true
-  plain-here = sym (ap no-index (route-next ops args at end l)) ∙ T .plain
+  -- where the walk ends
+  stopped : Stopped (start .args .ops .now) (extent (start .args .ops .now) (start .args .args .now))
+  stopped = extent-stopped (start .args .ops .now) (start .args .args .now) (start .pre .1 .1 .1 .is)
 
-  first-here : stops (elem-of (word ops at) (word args at) ∷ []) ≡ false
-  first-here = no-index-first (elem-of (word ops at) (word args at)) (route ops args (at + 1) (end - (at + 1))) plain-here
+  -- as many args as ops, and few
+  few : (length (start .args .args .now) ≡ length (start .args .ops .now)) × (length (start .args .ops .now) ≤ 129)
+  few = short-items (start .pre .1 .1 .1)
 
-  -- a step leads on
-  turn-more : {n u : ℕ} → ((y : Tree) → Coded Γ fs ws i t y → Stepped Γ fs ws i (elem-of (word ops at) (word args at)) y n u)
-      → Turn Γ fs ws ops args end node typ (at + 1) n u
-  turn-more f =
-      record {
-        least = omega arith;
-        most = omega arith;
-        plain = no-index-rest (elem-of (word ops at) (word args at)) (route ops args (at + 1) (end - (at + 1))) plain-here;
-        midway = λ x h. let M = T .midway x h in midway-step M (omega arith) first-here (f (M .tree) (M .here));
-      }
+walk-holds : tie.Need-walk-holds Inv-walk μ-walk
+walk-holds c =
+    let s : tie.Start Inv-walk μ-walk = search in
+    let S = s .pre .1 .1 .1 in
+    record { least = omega arith; most = extent-stopped (s .args .ops .now) (s .args .args .now) (S .is) .least; midway = λ x h. midway-start h (s .pre .1 .0) }
 
-  -- or is refused
-  turn-refused : {r : ℕ} → ((y : Tree) → Coded Γ fs ws i t y → Steps Γ fs ws i (elem-of (word ops at) (word args at)) y (Refused r))
-      → (x : Tree) → Coded Γ fs ws node typ x → (act : Tree → Answer Tree) → walk Γ act (rest ops args 1) x ≡ refused r
-  turn-refused f x h = let M = T .midway x h in midway-refused M (omega arith) first-here (f (M .tree) (M .here))
+mul-op : tie.Need-mul-op Inv-walk μ-walk
+mul-op c =
+    search needs
 
-loop-holds : tie.Need-loop-holds Inv-loop μ-loop
-loop-holds c =
-    let s = c .before .before .before .before .before .before in
-    record { least = omega arith; most = s .pre .1 .1 .1 .0 .0; plain = s .pre .1 .1 .1 .1; midway = λ x h. midway-start h (s .pre .1 .0) }
+shared-slice-read-op : tie.Need-shared-slice-read-op Inv-walk μ-walk
+shared-slice-read-op c =
+    search needs
 
-mul-if1 : tie.Need-mul-if1 Inv-loop μ-loop
-mul-if1 c =
-    let h = inside (c .before) in
+mul-if3 : tie.Need-mul-if3 Inv-walk μ-walk
+mul-if3 c =
+    let w : tie.At-walk Inv-walk μ-walk = search in
+    let h = inside w in
     omega (arith, h)
 
-shared-slice-read-if1 : tie.Need-shared-slice-read-if1 Inv-loop μ-loop
-shared-slice-read-if1 c =
-    inside (c .before .before)
+shared-slice-read-if3 : tie.Need-shared-slice-read-if3 Inv-walk μ-walk
+shared-slice-read-if3 c =
+    let w : tie.At-walk Inv-walk μ-walk = search in
+    inside w
 
-returns : tie.Need-returns Inv-loop μ-loop
-returns c =
-    let s = c .before .before .before .before .before .before .before .before .before .before in
-    let T = c .before .before .before .loop .inv in
-    λ x h. record { midway = T .midway x h; least = T .least; most = T .most; folded = λ l. coded-folded (ready-typed (s .pre .0) .known) (T .midway x h .here) (c .if1 .taken) }
-
-mul-step-open : tie.Need-mul-step-open Inv-loop μ-loop
+mul-step-open : tie.Need-mul-step-open Inv-walk μ-walk
 mul-step-open c =
-    let s = c .before .before .before .before .before .before .before .before .before .before in
-    omega (arith, c .before .before .loop-test .taken, s .pre .1 .1 .1 .0)
+    let w : tie.At-walk Inv-walk μ-walk = search in
+    let e : tie.Else1 Inv-walk μ-walk = search in
+    omega (arith, e .if1 .left, few w)
 
-shared-slice-read-step-open : tie.Need-shared-slice-read-step-open Inv-loop μ-loop
+shared-slice-read-step-open : tie.Need-shared-slice-read-step-open Inv-walk μ-walk
 shared-slice-read-step-open c =
-    let s = c .before .before .before .before .before .before .before .before .before .before .before in
-    omega (arith, c .before .before .before .loop-test .taken, s .pre .1 .1 .1 .0)
+    let w : tie.At-walk Inv-walk μ-walk = search in
+    let e : tie.Else1 Inv-walk μ-walk = search in
+    omega (arith, e .if1 .left, few w)
 
-mul-step-open-2 : tie.Need-mul-step-open-2 Inv-loop μ-loop
-mul-step-open-2 c =
-    let s = c .before .before .before .before .before .before .before .before .before .before .before in
-    omega (arith, c .before .before .before .loop-test .taken, s .pre .1 .1 .1 .0)
-
-shared-slice-read-step-open-2 : tie.Need-shared-slice-read-step-open-2 Inv-loop μ-loop
-shared-slice-read-step-open-2 c =
-    let s = c .before .before .before .before .before .before .before .before .before .before .before .before in
-    omega (arith, c .before .before .before .before .loop-test .taken, s .pre .1 .1 .1 .0)
-
-step-open-requires : tie.Need-step-open-requires Inv-loop μ-loop
+step-open-requires : tie.Need-step-open-requires Inv-walk μ-walk
 step-open-requires c κs =
-    let s = c .before .before .before .before .before .before .before .before .before .before .before .before in
-    let M = standing (c .before .before .before .before .before) in
-    (s .pre .0, (M .known, (record { tree = M .tree; coded = M .here }, c .before .before .if1 .left)))
+    let w : tie.At-walk Inv-walk μ-walk = search in
+    let e : tie.Else3 Inv-walk μ-walk = search in
+    let M = standing w in
+    (start w .pre .0, (M .known, (record { tree = M .tree; coded = M .here }, e .if3 .left)))
 
-enum-known-s : tie.Need-enum-known-s Inv-loop μ-loop
+enum-known-s : tie.Need-enum-known-s Inv-walk μ-walk
 enum-known-s c =
     search needs
 
-enum-known-s-2 : tie.Need-enum-known-s-2 Inv-loop μ-loop
+enum-known-s-2 : tie.Need-enum-known-s-2 Inv-walk μ-walk
 enum-known-s-2 c =
     search needs
 
-returns-2 : tie.Need-returns-2 Inv-loop μ-loop
-returns-2 c =
-    let s = c .before .before .before .before .before .before .before .before .before .before .before .before .before .before .before .before in
-    let T = c .before .before .before .before .before .before .before .before .before .loop .inv in
-    turn-refused T (c .before .before .before .before .before .before .before .before .loop-test .taken) (s .pre .1 .1 .1 .0 .1) (λ y h.
-    subst (Steps (s .args .types .now) (s .args .forms .now) (s .args .whats .now) (c .before .before .before .before .before .before .before .before .before .loop .i) (elem-of (word (s .args .ops .now) (c .before .before .before .before .before .before .before .before .before .loop .at)) (word (s .args .args .now) (c .before .before .before .before .before .before .before .before .before .loop .at))) y) (c .before .s2 .given .1) (c .before .before .before .step-open .ensures y h))
+returns : tie.Need-returns Inv-walk μ-walk
+returns c =
+    let a : tie.After-s2 Inv-walk μ-walk = search in
+    let p : tie.After-step-open Inv-walk μ-walk = search in
+    let e : tie.Else2 Inv-walk μ-walk = search in
+    let w : tie.At-walk Inv-walk μ-walk = search in
+    let S = start w .pre .1 .1 .1 in
+    turn-refused (w .walk .inv) S (omega arith) (e .if2 .left) (p .step-open .ensures) (a .s2 .given .1)
 
-add-at : tie.Need-add-at Inv-loop μ-loop
+add-at : tie.Need-add-at Inv-walk μ-walk
 add-at c =
-    let s = c .before .before .before .before .before .before .before .before .before .before .before .before .before .before .before .before in
-    omega (arith, c .before .before .before .before .before .before .before .before .loop-test .taken, s .fits .end)
+    let e : tie.Else1 Inv-walk μ-walk = search in
+    omega (arith, e .if1 .left)
 
-loop-less : tie.Need-loop-less Inv-loop μ-loop
-loop-less c =
-    omega (arith, c .before .before .before .before .before .before .before .before .loop-test .taken)
+walk-less : tie.Need-walk-less Inv-walk μ-walk
+walk-less c =
+    let e : tie.Else1 Inv-walk μ-walk = search in
+    omega (arith, e .if1 .left)
 
-loop-again : tie.Need-loop-again Inv-loop μ-loop
-loop-again c =
-    let s = c .before .before .before .before .before .before .before .before .before .before .before .before .before .before .before .before in
-    let T = c .before .before .before .before .before .before .before .before .before .loop .inv in
-    turn-more T (c .before .before .before .before .before .before .before .before .loop-test .taken) (s .pre .1 .1 .1 .0 .1) (λ y h.
-    subst (Steps (s .args .types .now) (s .args .forms .now) (s .args .whats .now) (c .before .before .before .before .before .before .before .before .before .loop .i) (elem-of (word (s .args .ops .now) (c .before .before .before .before .before .before .before .before .before .loop .at)) (word (s .args .args .now) (c .before .before .before .before .before .before .before .before .before .loop .at))) y) (c .before .s .given .1) (c .before .before .before .step-open .ensures y h))
+walk-again : tie.Need-walk-again Inv-walk μ-walk
+walk-again c =
+    let a : tie.After-s Inv-walk μ-walk = search in
+    let p : tie.After-step-open Inv-walk μ-walk = search in
+    let e : tie.Else2 Inv-walk μ-walk = search in
+    let w : tie.At-walk Inv-walk μ-walk = search in
+    let S = start w .pre .1 .1 .1 in
+    turn-more (w .walk .inv) S (omega arith) (e .if2 .left) (p .step-open .ensures) (a .s .given .1)
 
-returns-3 : tie.Need-returns-3 Inv-loop μ-loop
+returns-2 : tie.Need-returns-2 Inv-walk μ-walk
+returns-2 c =
+    let w : tie.At-walk Inv-walk μ-walk = search in
+    turn-done (w .walk .inv) (λ x h l. absurd (omega (arith, stopped w .most)))
+
+returns-3 : tie.Need-returns-3 Inv-walk μ-walk
 returns-3 c =
-    let T = c .before .loop .inv in
-    λ x h. record { midway = T .midway x h; least = T .least; most = T .most; folded = λ l. absurd (omega (arith, c .loop-test .left)) }
+    let w : tie.At-walk Inv-walk μ-walk = search in
+    let T = w .walk .inv in
+    turn-done T (λ x h l. absurd (omega (arith, stopped-here (stopped w) (T .least) (T .most) (c .if2 .taken))))
+
+returns-4 : tie.Need-returns-4 Inv-walk μ-walk
+returns-4 c =
+    let w : tie.At-walk Inv-walk μ-walk = search in
+    let T = w .walk .inv in
+    turn-done T (λ x h l. coded-folded (ready-typed (start w .pre .0) .known) (T .midway x h .here) (c .if3 .taken))
 
 pub pass-open-spec : {M : Type 1} → statement M
-pass-open-spec = tie.close (tie.spec Inv-loop μ-loop loop-holds mul-if1 shared-slice-read-if1 returns mul-step-open shared-slice-read-step-open mul-step-open-2 shared-slice-read-step-open-2 step-open-requires enum-known-s enum-known-s-2 returns-2 add-at loop-less loop-again returns-3)
+pass-open-spec = tie.close (tie.spec Inv-walk μ-walk walk-holds mul-op shared-slice-read-op mul-if3 shared-slice-read-if3 mul-step-open shared-slice-read-step-open step-open-requires enum-known-s enum-known-s-2 returns add-at walk-less walk-again returns-2 returns-3 returns-4)

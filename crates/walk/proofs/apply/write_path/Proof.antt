@@ -56,17 +56,19 @@ distance-requires c κs =
 
 add-p : tie.Need-add-p Inv-loop μ-loop
 add-p c =
-    let s = c .before .before .before .before .before .before .before .before .before .before .before .before .before .before .before .before .before .before in
+    let t : tie.In-loop Inv-loop μ-loop = search in
+    let s : tie.Start Inv-loop μ-loop = search in
     let R = s .pre .1 .1 .1 .1 in
-    let w = c .before .before .before .before .before .before .before .before .before .before .before .loop .inv (R .end) (R .leads) in
-    omega (arith, c .distance .ensures, w .pen, writing-pen (ready-typed (s .pre .0)) w (R .leads) (c .before .before .before .before .before .before .before .before .before .before .loop-test .taken), R .forms, s .good)
+    let w = t .before .loop .inv (R .end) (R .leads) in
+    omega (arith, c .distance .ensures, w .pen, writing-pen (ready-typed (s .pre .0)) w (R .leads) (t .loop-test .taken), R .forms, s .good)
 
 step-folded-requires : tie.Need-step-folded-requires Inv-loop μ-loop
 step-folded-requires c κs =
-    let s = c .before .before .before .before .before .before .before .before .before .before .before .before .before .before .before .before .before .before in
+    let t : tie.In-loop Inv-loop μ-loop = search in
+    let s : tie.Start Inv-loop μ-loop = search in
     let R = s .pre .1 .1 .1 .1 in
-    let t = c .before .before .before .before .before .before .before .before .before .before .before .loop .inv (R .end) (R .leads) .turn in
-    (s .pre .0, (t .fine, omega (arith, t .few, c .before .before .before .before .before .before .before .before .before .before .loop-test .taken, s .pre .1 .1 .0 .3)))
+    let T = t .before .loop .inv (R .end) (R .leads) .turn in
+    (s .pre .0, (T .fine, omega (arith, T .few, t .loop-test .taken, s .pre .1 .1 .0 .3)))
 
 enum-known-s : tie.Need-enum-known-s Inv-loop μ-loop
 enum-known-s c =
@@ -79,10 +81,11 @@ enum-told c =
 -- no step is refused
 never : (c : tie.After-enum-told Inv-loop μ-loop) → ⊥
 never c =
-    let s = c .before .before .before .before .before .before .before .before .before .before .before .before .before .before .before .before .before .before .before .before .before in
+    let f : tie.After-step-folded Inv-loop μ-loop = search in
+    let t : tie.In-loop Inv-loop μ-loop = search in
+    let s : tie.Start Inv-loop μ-loop = search in
     let R = s .pre .1 .1 .1 .1 in
-    writing-going (ready-typed (s .pre .0)) (c .before .before .before .before .before .before .before .before .before .before .before .before .before .before .loop .inv (R .end) (R .leads)) (R .leads) (c .before .before .before .before .before .before .before .before .before .before .before .before .before .loop-test .taken)
-    (sym (c .before .before .step-folded .ensures) ∙ c .enum-told .given .1)
+    writing-going (ready-typed (s .pre .0)) (t .before .loop .inv (R .end) (R .leads)) (R .leads) (t .loop-test .taken) (sym (f .step-folded .ensures) ∙ c .enum-told .given .1)
 
 same-length : tie.Need-same-length Inv-loop μ-loop
 same-length c =
@@ -98,17 +101,26 @@ returns c =
 
 add-at : tie.Need-add-at Inv-loop μ-loop
 add-at c =
-    omega (arith, c .before .before .before .before .before .before .before .before .before .before .before .before .before .before .loop-test .taken, c .before .before .before .before .before .before .before .before .before .before .before .before .before .before .before .before .before .before .before .before .before .before .fits .end)
+    let t : tie.In-loop Inv-loop μ-loop = search in
+    let s : tie.Start Inv-loop μ-loop = search in
+    omega (arith, t .loop-test .taken, s .fits .end)
 
 loop-less : tie.Need-loop-less Inv-loop μ-loop
 loop-less c =
-    omega (arith, c .before .before .before .before .before .before .before .before .before .before .before .before .before .before .loop-test .taken)
+    let t : tie.In-loop Inv-loop μ-loop = search in
+    omega (arith, t .loop-test .taken)
 
 loop-again : tie.Need-loop-again Inv-loop μ-loop
 loop-again c =
-    let s = c .before .before .before .before .before .before .before .before .before .before .before .before .before .before .before .before .before .before .before .before .before .before in
-    let w = c .before .before .before .before .before .before .before .before .before .before .before .before .before .before .before .loop .inv in
-    λ g d. writing-more (ready-typed (s .pre .0)) (w g d) d (c .before .before .before .before .before .before .before .before .before .before .before .before .before .before .loop-test .taken) (c .before .before .before .before .before .before .before .before .before .write-open .ensures .0) (c .before .before .before .before .before .before .before .before .before .write-open .ensures .1) (ap (λ (n : ℕ). c .before .before .before .before .before .before .before .before .before .before .before .before .before .before .before .loop .p + n) (c .before .before .before .before .distance .ensures)) (sym (c .before .before .before .step-folded .ensures) ∙ c .before .s .given .1)
+    let t : tie.In-loop Inv-loop μ-loop = search in
+    let s : tie.Start Inv-loop μ-loop = search in
+    let a : tie.After-s Inv-loop μ-loop = search in
+    let f : tie.After-step-folded Inv-loop μ-loop = search in
+    let d : tie.After-distance Inv-loop μ-loop = search in
+    let o : tie.After-write-open Inv-loop μ-loop = search in
+    let w = t .before .loop in
+    λ g e. writing-more (ready-typed (s .pre .0)) (w .inv g e) e (t .loop-test .taken) (o .write-open .ensures .0) (o .write-open .ensures .1)
+    (ap (λ (n : ℕ). w .p + n) (d .distance .ensures)) (sym (f .step-folded .ensures) ∙ a .s .given .1)
 
 same-length-3 : tie.Need-same-length-3 Inv-loop μ-loop
 same-length-3 c =

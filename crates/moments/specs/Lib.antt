@@ -1,0 +1,2 @@
+-- How a contract speaks of what was lent.
+pub mod Lent

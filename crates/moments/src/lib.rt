@@ -1,0 +1,1 @@
+// No code: how a contract speaks of what was lent (specs/Lent).
