@@ -1,11 +1,12 @@
 -- Join points by number, and the read that a block's switch matches on.
-use mathlib.Core.Bool.{true, false, cond}
+use mathlib.Core.Path.{_≡_}
+use mathlib.Core.Bool.{Bool, true, false, cond}
 use mathlib.Core.List.{List, [], _∷_}
 use mathlib.Core.Option.{Option, none, some}
-use Prim.Native.Nat.{ℕ, suc, _-_}
+use Prim.Native.Nat.{ℕ, suc, _+_, _-_, _<_}
 use lib.Dec.{eqb}
 use Rattle.model.specs.Words.{count-below, collect-from}
-use Rattle.model.specs.Function.{start, stop, op}
+use Rattle.model.specs.Function.{start, stop, op, arg}
 use Rattle.model.specs.Block.{spot-before, root-before, uses-place, is-join-point, latest-note}
 use Rattle.blocks.specs.declared.matching.Item.{Item}
 use Rattle.blocks.specs.declared.matching.Item.the-variants.{At, Nowhere}
@@ -39,3 +40,11 @@ switch-item fn b = elim (collect-from (λ i. eqb (op fn i) 8) (λ i. i) (stop fn
 abbrev pub item-of : Option ℕ → Item
 item-of none = Nowhere
 item-of (some i) = At i
+
+-- the n items from a on are those from b on
+abbrev pub Same-items : List ℕ → ℕ → ℕ → ℕ → Type 0
+Same-items fn a b n = (k : ℕ) → k < n → (op fn (a + k) ≡ op fn (b + k)) × (arg fn (a + k) ≡ arg fn (b + k))
+
+-- r tells whether they are
+abbrev pub Tells-same : List ℕ → ℕ → ℕ → ℕ → Bool → Type 0
+Tells-same fn a b n r = (r ≡ true → Same-items fn a b n) × (Same-items fn a b n → r ≡ true)

@@ -1,12 +1,12 @@
 // Which place a switch matches on: the place read before the latest note of the switch's place in the block.
 ghost use mathlib.Core.Path.{_≡_};
 ghost use mathlib.Core.Bool.{true};
-ghost use Prim.Native.Nat.{ℕ, _+_, _-_, _<_, _≤_};
+ghost use Prim.Native.Nat.{_+_, _-_, _<_, _≤_};
 ghost use Rattle.model.specs.Place.{same-spot};
-ghost use Rattle.model.specs.Function.{nblocks, nitems, op, arg};
+ghost use Rattle.model.specs.Function.{nblocks, nitems};
 ghost use Rattle.model.specs.Block.{root-before, spot-before, uses-place, latest-note};
 ghost use Rattle.mir.specs.Sizes.{Laid, Formed};
-ghost use Rattle.blocks.specs.Points.{matched-read, switch-item, item-of};
+ghost use Rattle.blocks.specs.Points.{matched-read, switch-item, item-of, Tells-same};
 use crate::place::root_before;
 use crate::place::uses_place;
 use mir::function::arg_of;
@@ -24,7 +24,7 @@ pub enum Item {
 fn same_items(fun: &[u32], a: usize, b: usize, n: usize) -> bool
     requires { ⌜ Laid (now fun) ⌝ }
     requires { ⌜ (a + n ≤ nitems (now fun)) × (b + n ≤ nitems (now fun)) ⌝ }
-    ensures { λ r. ⌜ (r ≡ true → (k : ℕ) → k < n → (op (now (fun .entry)) (a + k) ≡ op (now (fun .entry)) (b + k)) × (arg (now (fun .entry)) (a + k) ≡ arg (now (fun .entry)) (b + k))) × (((k : ℕ) → k < n → (op (now (fun .entry)) (a + k) ≡ op (now (fun .entry)) (b + k)) × (arg (now (fun .entry)) (a + k) ≡ arg (now (fun .entry)) (b + k))) → r ≡ true) ⌝ }
+    ensures { λ r. ⌜ Tells-same (now (fun .entry)) a b n r ⌝ }
 {
     let mut k = 0;
     while k < n {

@@ -15,7 +15,7 @@ use Rattle.model.specs.Record.{Entry, writable, lent}
 use Rattle.model.specs.Calls.{written}
 use Rattle.model.specs.Promised.{One-of, collect-numbers, unfolds-numbers, folds-numbers, Collect-Promise, Unfolds-Promise, Folds-Promise, Clashes, Bare}
 use Rattle.records.specs.Here.{CodedAll, Holds}
-use Rattle.state.specs.Value.{value}
+use Rattle.state.specs.Value.{value, state-in}
 use Rattle.state.specs.declared.nodes.State.{State}
 use Rattle.statements.specs.declared.Out.{Out}
 use Rattle.statements.specs.Kept.{begun, point-of, Counted, Kept, Puts}
@@ -35,6 +35,10 @@ outcome g = cond (eqb (g .refusal) 0) (Done (g .out)) (Refused (g .refusal))
 abbrev pub Held : List ℕ → List ℕ → State → Type 0
 Held Γ locals s = (S : Forest) × Holds Γ locals (value s) S
 
+-- so do the arrays, of some number of nodes
+abbrev pub Held-in : (Γ locals fs ws : List ℕ) → Type 0
+Held-in Γ locals fs ws = (n : ℕ) × Held Γ locals (state-in fs ws n)
+
 -- the statements a are recorded at the point of o behind what was, or r is their refusal
 pub record Collects (out : List ℕ) (o : Out) (out′ : List ℕ) (a : Answer (List At)) (r : Collected) : Type 0 where
   pub recorded : (q : Out) → r ≡ Done q → (b : List At) × (a ≡ done b) × Puts (length b) out o out′ q (lines-of (point-of o) (root 0) b)
@@ -50,9 +54,9 @@ abbrev pub Unfolds : List ℕ → List ℕ → State → List ℕ → Out → Li
 Unfolds Γ locals s out o out′ r = (S : Forest) → Holds Γ locals (value s) S → Collects out o out′ (unfoldss Γ S) r
 
 -- what a return owes of the locals 1 to a is recorded at the point of o, as r has it
-abbrev pub Owes : List ℕ → List ℕ → ℕ → State → List ℕ → Out → List ℕ → Out → Type 0
-Owes Γ locals a s out o out′ r =
-    (S : Forest) → Holds Γ locals (value s) S
+abbrev pub Owes : (Γ locals : List ℕ) (a : ℕ) (fs ws out : List ℕ) → Out → List ℕ → Out → Type 0
+Owes Γ locals a fs ws out o out′ r =
+    (n : ℕ) (S : Forest) → Holds Γ locals (value (state-in fs ws n)) S
     → Puts (length (folds-at-ret Γ a S)) out o out′ r (lines-of (point-of o) (root 0) (folds-at-ret Γ a S))
 
 -- the same of the arrays of a state

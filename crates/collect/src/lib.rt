@@ -131,6 +131,6 @@ pub fn collect_folds_at_ret(
     if check_given(types, &offs, locals, s) != 0 {
         return refused(out, 3);
     }
-    let o = states::collect_folds_at_ret(types, &offs, locals, a, s, out, start());
+    let o = states::collect_folds_at_ret(types, &offs, locals, a, &s.forms, &s.whats, out, start());
     finished(out, o)
 }

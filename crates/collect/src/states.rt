@@ -9,7 +9,7 @@ ghost use Rattle.type_record.specs.Sizes.{Ready};
 ghost use Rattle.statements.specs.Kept.{Counted};
 ghost use Rattle.collectors.specs.Trail.{Long, root};
 ghost use Rattle.collectors.specs.Gets.{StandAll, OpeningAll, LeadingAll};
-ghost use Rattle.collect.specs.Answers.{outcome, Held, Moves, Unfolds, Owes, Owed};
+ghost use Rattle.collect.specs.Answers.{outcome, Held, Held-in, Moves, Unfolds, Owes, Owed};
 use collectors::folds::folds_node;
 use collectors::got::Cursor;
 use collectors::got::Got;
@@ -225,22 +225,23 @@ pub fn collect_unfolds(
     outcome(g)
 }
 
-// The folds that a return owes: of the locals 1 to a.
-pub fn collect_folds_at_ret(
+// The folds that a return owes: of the locals 1 to a. The state is lent, so that a block that returns need not copy it.
+pub fn collect_folds_at_ret<'a>(
     types: &[u32],
     offs: &[u32],
     locals: &[u32],
     a: usize,
-    s: State,
+    forms: &'a [u16],
+    whats: &'a [u16],
     out: &mut [u32],
     o: Out,
 ) -> Out
     requires { ⌜ Ready (now types) (now offs) ⌝ }
     requires { ⌜ locals-ok (now types) (now locals) ≡ true ⌝ }
     requires { ⌜ a < length (now locals) ⌝ }
-    requires { ⌜ Held (now types) (now locals) s ⌝ }
+    requires { ⌜ Held-in (now types) (now locals) (now forms) (now whats) ⌝ }
     requires { ⌜ Counted (now out) o ⌝ }
-    ensures { λ r. ⌜ Owes (was types) (was locals) a s (was out) o (after out) r ⌝ }
+    ensures { λ r. ⌜ Owes (was types) (was locals) a (was forms) (was whats) (was out) o (after out) r ⌝ }
 {
     let mut ops = [0u32; 130];
     let mut args = [0u32; 130];
@@ -249,8 +250,8 @@ pub fn collect_folds_at_ret(
         offs,
         locals,
         a,
-        &s.forms,
-        &s.whats,
+        forms,
+        whats,
         &mut ops,
         &mut args,
         out,

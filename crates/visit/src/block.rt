@@ -110,21 +110,23 @@ fn meet(
     Visit::Over(o)
 }
 
-// What the return at the item i records.
-fn returned(
+// What the return at the item i records, in the state of n nodes that these arrays have.
+fn returned<'a>(
     types: &[u32],
     offs: &[u32],
     fun: &[u32],
     i: usize,
-    s: State,
+    forms: &'a [u16],
+    whats: &'a [u16],
+    n: usize,
     out: &mut [u32],
     o: Out,
 ) -> Out
     requires { ⌜ Accepted (now types) (now offs) (now fun) ⌝ }
     requires { ⌜ i < nitems (now fun) ⌝ }
-    requires { ⌜ Stated (now types) (local-types (now fun)) s ⌝ }
+    requires { ⌜ Stated (now types) (local-types (now fun)) (state-in (now forms) (now whats) n) ⌝ }
     requires { ⌜ Counted (now out) o ⌝ }
-    ensures { λ r. ⌜ Returns (was types) (was fun) i s (was out) o (after out) r ⌝ }
+    ensures { λ r. ⌜ Returns (was types) (was fun) i (state-in (was forms) (was whats) n) (was out) o (after out) r ⌝ }
 {
     if o.recording {
         return collect_folds_at_ret(
@@ -132,7 +134,8 @@ fn returned(
             offs,
             local_types(fun),
             nargs(fun),
-            s,
+            forms,
+            whats,
             out,
             at_point(o, point_of(i, false)),
         );
@@ -237,12 +240,7 @@ pub fn basic_block(
     let n = r.nodes;
     let q = r.out;
     if op_of(fun, end - 1) == 11 {
-        let t = State {
-            forms: fs,
-            whats: ws,
-            nodes: n,
-        };
-        return Visit::Over(returned(types, offs, fun, end - 1, t, out, q));
+        return Visit::Over(returned(types, offs, fun, end - 1, &fs, &ws, n, out, q));
     }
     terminator(
         types,

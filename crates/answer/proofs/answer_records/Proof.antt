@@ -59,7 +59,14 @@ same-length : tie.Need-same-length
 same-length c = search needs
 
 returns : tie.Need-returns
-returns c = refuses-says (c .before .before .print-refusal .ensures) (sym (refused-text (c .before .before .before .before .before .before .before .before .before .before .ghost-statements .ensures .0) (c .before .before .before .before .before .before .before .before .before .before .before .before .before .before .before .before .store .ensures) (c .before .before .before .before .before .before .before .before .before .before .before .before .before .before .before .store2 .ensures) (c .before .before .before .before .before .before .before .before .before .before .before .before .before .before .buffer .ensures) (c .before .before .before .before .before .a .given .1)))
+returns c =
+    let said = c .before .before in
+    let at-before = said .before .before .before in
+    let asked = at-before .before .before .before .before .before in
+    let at-before = asked .before .before .before .before in
+    let at-before = at-before .before in
+    let forms = at-before .before in
+    refuses-says (said .print-refusal .ensures) (sym (refused-text (asked .ghost-statements .ensures .0) (forms .store .ensures) (at-before .store2 .ensures) (at-before .buffer .ensures) (at-before .a .given .1)))
 
 same-length-2 : tie.Need-same-length-2
 same-length-2 c = search needs

@@ -5,7 +5,7 @@ use Rattle.model.specs.Collect.{folds-at-ret}
 use Rattle.state.specs.Value.{value}
 use Rattle.statements.proofs.Puts.{counted-begun}
 use Rattle.input.proofs.Tested.{given-read}
-use Rattle.collect.specs.Answers.{Held}
+use Rattle.collect.specs.Answers.{Held-in}
 use Rattle.collect.proofs.Promised.{folds-promised}
 use Rattle.collect.proofs.Called.{writes-refused, writes-same, folds-untyped, folds-args, folds-state, folds-goes, puts-from, ended-puts}
 use Rattle.collect.proofs.collect_folds_at_ret.Statement.{statement}
@@ -95,18 +95,18 @@ start-requires c κs = search needs
 collect-folds-at-ret-requires : tie.Need-collect-folds-at-ret-requires
 collect-folds-at-ret-requires c κs =
     let e : tie.Else3 = search in
-    let S = given-read (begins e .args .types .now) (begins e .args .locals .now) (value (begins e .args .s)) (given e .check-given .ensures) (e .if3 .left) in
+    let S = given-read (begins e .args .types .now) (begins e .args .locals .now) (value (begins e .args .t4)) (given e .check-given .ensures) (e .if3 .left) in
     let K = tested e .check-locals .ensures in
     let z = passed e .if1 .left in
-    let held : Held (begins e .args .types .now) (begins e .args .locals .now) (begins e .args .s) = (S .0, S .2) in
+    let held : Held-in (begins e .args .types .now) (begins e .args .locals .now) (begins e .args .t4 .forms) (begins e .args .t4 .whats) = (begins e .args .t4 .nodes, (S .0, S .2)) in
     (K .ready z, (K .typed z, (within e .if2 .left, (held, rw (c .start .ensures) (counted-begun _)))))
 
 finished-requires : tie.Need-finished-requires
 finished-requires c κs =
     let g : tie.After-collect-folds-at-ret = search in
     let e : tie.Else3 = search in
-    let S = given-read (begins e .args .types .now) (begins e .args .locals .now) (value (begins e .args .s)) (given e .check-given .ensures) (e .if3 .left) in
-    g .collect-folds-at-ret .ensures (S .0) (S .2) .counted
+    let S = given-read (begins e .args .types .now) (begins e .args .locals .now) (value (begins e .args .t4)) (given e .check-given .ensures) (e .if3 .left) in
+    g .collect-folds-at-ret .ensures (begins e .args .t4 .nodes) (S .0) (S .2) .counted
 
 same-length-4 : tie.Need-same-length-4
 same-length-4 c = search needs
@@ -117,11 +117,11 @@ returns-4 c =
     let g : tie.After-collect-folds-at-ret = search in
     let o : tie.After-start = search in
     let e : tie.Else3 = search in
-    let S = given-read (begins e .args .types .now) (begins e .args .locals .now) (value (begins e .args .s)) (given e .check-given .ensures) (e .if3 .left) in
+    let S = given-read (begins e .args .types .now) (begins e .args .locals .now) (value (begins e .args .t4)) (given e .check-given .ensures) (e .if3 .left) in
     let b = folds-at-ret (begins e .args .types .now) (begins e .args .a) (S .0) in
     let goes = folds-goes (tested e .check-locals .ensures) _ (passed e .if1 .left) _ (S .1) (begins e .args .a) (within e .if2 .left) in
-    let put = puts-from (o .start .ensures) b (g .collect-folds-at-ret .ensures (S .0) (S .2)) in
-    folds-promised _ _ _ _ _ (writes-same (done b) (g .collect-folds-at-ret .kept .1 .1 .1 .1 .1 .0) goes (ended-puts b put (r .finished .ensures)))
+    let put = puts-from (o .start .ensures) b (g .collect-folds-at-ret .ensures (begins e .args .t4 .nodes) (S .0) (S .2)) in
+    folds-promised _ _ _ _ _ (writes-same (done b) (g .collect-folds-at-ret .kept .1 .1 .1 .1 .1 .1 .0) goes (ended-puts b put (r .finished .ensures)))
 
 pub collect-folds-at-ret-spec : {M : Type 1} → statement M
 collect-folds-at-ret-spec =

@@ -15,7 +15,7 @@ folds-locals-requires : tie.Need-folds-locals-requires
 folds-locals-requires c κs =
     let s : tie.Start = search in
     let p = s .pre in
-    (p .0, (p .1 .0, (p .1 .1 .0, (holds-stand (p .1 .1 .1 .0 .1), (record { first = refl; second = refl }, p .1 .1 .1 .1)))))
+    (p .0, (p .1 .0, (p .1 .1 .0, (holds-stand (p .1 .1 .1 .0 .1 .1), (record { first = refl; second = refl }, p .1 .1 .1 .1)))))
 
 same-length : tie.Need-same-length
 same-length c = search needs
@@ -23,7 +23,7 @@ same-length c = search needs
 returns : tie.Need-returns
 returns c =
     let g : tie.After-folds-locals = search in
-    λ S h. g .folds-locals .ensures .trees S (h .trees)
+    λ n S h. g .folds-locals .ensures .trees S (h .trees)
 
 pub collect-folds-at-ret-spec : {M : Type 1} → statement M
 collect-folds-at-ret-spec =

@@ -17,11 +17,14 @@ after-ender-requires : tie.Need-after-ender-requires
 after-ender-requires c κs = search needs
 
 returns : tie.Need-returns
-returns c = c .after-root .ensures ∙ ap (after (c .before .before .args .before)) (sym (c .before .match .keys1))
+returns c =
+    let start : tie.Start = search in
+    c .after-root .ensures ∙ ap (after (start .args .before)) (sym (c .before .match .keys1))
 
 returns-2 : tie.Need-returns-2
 returns-2 c =
-    let a = c .before .before .args in
+    let start : tie.Start = search in
+    let a = start .args in
     sym (after-place (a .before) (a .op) (omega arith) (omega arith))
 
 returns-3 : tie.Need-returns-3

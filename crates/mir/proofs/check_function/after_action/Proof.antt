@@ -17,14 +17,16 @@ returns-2 c = rw (c .if2 .taken)
 returns-3 : tie.Need-returns-3
 unfolding after
 returns-3 c =
-    let e : c .before .before .before .args .op ≡ 5 = omega arith in
+    let start : tie.Start = search in
+    let e : start .args .op ≡ 5 = omega arith in
     rw (e, c .if3 .taken)
 
 returns-4 : tie.Need-returns-4
 unfolding after
 returns-4 c =
-    let e : c .before .before .before .args .op ≡ 5 = omega arith in
-    rw (e, ne-eqb (c .before .before .before .args .before) 1 (c .if3 .left))
+    let start : tie.Start = search in
+    let e : start .args .op ≡ 5 = omega arith in
+    rw (e, ne-eqb (start .args .before) 1 (c .if3 .left))
 
 pub after-action-spec : {M : Type 1} → statement M
 after-action-spec = tie.close (tie.spec returns returns-2 returns-3 returns-4)

@@ -21,11 +21,14 @@ returns-3 c = rw (c .before .if3 .taken, c .if4 .taken)
 
 returns-4 : tie.Need-returns-4
 unfolding after
-returns-4 c = rw (c .before .if3 .taken, ne-eqb (c .before .before .before .before .args .before) 7 (c .if4 .left))
+returns-4 c =
+    let start : tie.Start = search in
+    rw (c .before .if3 .taken, ne-eqb (start .args .before) 7 (c .if4 .left))
 
 returns-5 : tie.Need-returns-5
 returns-5 c =
-    let a = c .before .before .before .args in
+    let start : tie.Start = search in
+    let a = start .args in
     sym (after-end (a .before) (a .op) (omega arith))
 
 pub after-ender-spec : {M : Type 1} → statement M

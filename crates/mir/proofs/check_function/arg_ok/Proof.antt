@@ -43,13 +43,16 @@ nblocks-requires c κs = search needs
 
 returns : tie.Need-returns
 returns c =
-    let s = c .before .before .before in
+    let match-keys1 : tie.At-match-keys1 = search in
+    let arg-of : tie.After-arg-of = search in
+    let s = arg-of in
     let a = s .before .before .before .args in
-    arg-target (a .fun .now) (a .i) (s .before .op-of .result) (s .arg-of .result) (s .before .op-of .ensures) (s .arg-of .ensures) (c .before .before .match .keys1) (c .before .wide .ensures) (c .nblocks .ensures)
+    arg-target (a .fun .now) (a .i) (s .before .op-of .result) (s .arg-of .result) (s .before .op-of .ensures) (s .arg-of .ensures) (match-keys1 .match .keys1) (c .before .wide .ensures) (c .nblocks .ensures)
 
 returns-2 : tie.Need-returns-2
 returns-2 c =
-    let s = c .before .before in
+    let arg-of : tie.After-arg-of = search in
+    let s = arg-of in
     let a = s .before .before .before .args in
     let r = c .before .match .rest in
     let none = arg-none (a .fun .now) (a .i) (s .before .op-of .result) (s .arg-of .result) (s .before .op-of .ensures) (s .arg-of .ensures)
@@ -65,7 +68,8 @@ returns-3 c =
 
 returns-4 : tie.Need-returns-4
 returns-4 c =
-    let s = c .before .before .before in
+    let arg-of : tie.After-arg-of = search in
+    let s = arg-of in
     let a = s .before .before .before .args in
     let o = s .before .op-of .result in
     let named = arg-named (a .fun .now) (a .i) o (s .arg-of .result) (s .before .op-of .ensures) (s .arg-of .ensures) in

@@ -25,13 +25,15 @@ start-of-requires c κs = search needs
 returns : tie.Need-returns
 unfolding begins
 returns c =
-    let a = c .before .before .before .before .args in
+    let start′ : tie.Start = search in
+    let a = start′ .args in
     rw (c .start-of .ensures, lt-ltb (a .b) (nblocks (a .fun .now)) (omega arith)) (eqb-swap (start (a .fun .now) (a .b)) (a .i))
 
 returns-2 : tie.Need-returns-2
 unfolding begins
 returns-2 c =
-    let a = c .before .before .before .args in
+    let start : tie.Start = search in
+    let a = start .args in
     rw (le-ltb (a .b) (nblocks (a .fun .now)) (omega arith))
 
 pub begins-spec : {M : Type 1} → statement M

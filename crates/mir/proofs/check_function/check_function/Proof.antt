@@ -16,7 +16,9 @@ sizes : (c : tie.Else1) → function-sizes (c .before .before .before .before .a
 sizes c = sym (c .before .function-sizes .ensures) ∙ not-false _ (c .if1 .left)
 
 laid : (c : tie.Else1) → Laid (c .before .before .before .before .args .fun .now)
-laid c = sizes-laid (c .before .before .before .before .args .fun .now) (sizes c)
+laid c =
+    let start : tie.Start = search in
+    sizes-laid (start .args .fun .now) (sizes c)
 
 -- what `locals_ok` was given are the local types
 given : (c : tie.After-locals-ok)
@@ -46,33 +48,45 @@ local-types-requires : tie.Need-local-types-requires
 local-types-requires c κs = laid c
 
 locals-ok-requires : tie.Need-locals-ok-requires
-locals-ok-requires c κs = let s = c .before .before .before .before .before in types-sized (s .args .types .now) (s .pre)
+locals-ok-requires c κs =
+    let start : tie.Start = search in
+    let s = start in types-sized (s .args .types .now) (s .pre)
 
 returns-2 : tie.Need-returns-2
 unfolding function-ok
-returns-2 c = rw (sizes (c .before .before .before), sym (given (c .before)) ∙ not-true _ (c .if2 .taken))
+returns-2 c =
+    let else1 : tie.Else1 = search in
+    rw (sizes (else1), sym (given (c .before)) ∙ not-true _ (c .if2 .taken))
 
 starts-ok-requires : tie.Need-starts-ok-requires
-starts-ok-requires c κs = laid (c .before .before .before)
+starts-ok-requires c κs =
+    let else1 : tie.Else1 = search in
+    laid (else1)
 
 returns-3 : tie.Need-returns-3
 unfolding function-ok
 returns-3 c =
-    let l = c .before .before in
+    let else2 : tie.Else2 = search in
+    let l = else2 in
     rw (sizes (l .before .before .before), locals l, sym (c .before .starts-ok .ensures) ∙ not-true _ (c .if3 .taken))
 
 ranks-ok-requires : tie.Need-ranks-ok-requires
-ranks-ok-requires c κs = laid (c .before .before .before .before .before)
+ranks-ok-requires c κs =
+    let else1 : tie.Else1 = search in
+    laid (else1)
 
 returns-4 : tie.Need-returns-4
 unfolding function-ok
 returns-4 c =
-    let l = c .before .before in
+    let else3 : tie.Else3 = search in
+    let l = else3 in
     let m = l .before .before in
     rw (sizes (m .before .before .before), locals m, starts l, sym (c .before .ranks-ok .ensures) ∙ not-true _ (c .if4 .taken))
 
 items-ok-requires : tie.Need-items-ok-requires
-items-ok-requires c κs = laid (c .before .before .before .before .before .before .before)
+items-ok-requires c κs =
+    let else1 : tie.Else1 = search in
+    laid (else1)
 
 returns-5 : tie.Need-returns-5
 unfolding function-ok

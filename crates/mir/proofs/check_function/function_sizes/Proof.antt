@@ -7,7 +7,9 @@ use Rattle.mir.proofs.check_function.function_sizes.Statement.{statemen
 use Rattle.mir.proofs.check_function.function_sizes.Tie as tie
 
 returns : tie.Need-returns
-returns c = sym (sizes-fail (c .before .before .args .fun .now) (λ h. omega arith))
+returns c =
+    let start : tie.Start = search in
+    sym (sizes-fail (start .args .fun .now) (λ h. omega arith))
 
 shared-slice-read-wide : tie.Need-shared-slice-read-wide
 shared-slice-read-wide c = omega arith
@@ -34,22 +36,34 @@ wide-requires-4 : tie.Need-wide-requires-4
 wide-requires-4 c κs = search needs
 
 returns-2 : tie.Need-returns-2
-returns-2 c = sym (sizes-fail (c .before .before .before .before .before .before .before .before .before .before .before .args .fun .now) (λ h. omega arith))
+returns-2 c =
+    let start : tie.Start = search in
+    sym (sizes-fail (start .args .fun .now) (λ h. omega arith))
 
 returns-3 : tie.Need-returns-3
-returns-3 c = sym (sizes-fail (c .before .before .before .before .before .before .before .before .before .before .before .before .args .fun .now) (λ h. omega arith))
+returns-3 c =
+    let start : tie.Start = search in
+    sym (sizes-fail (start .args .fun .now) (λ h. omega arith))
 
 returns-4 : tie.Need-returns-4
-returns-4 c = sym (sizes-fail (c .before .before .before .before .before .before .before .before .before .before .before .before .before .args .fun .now) (λ h. omega arith))
+returns-4 c =
+    let start : tie.Start = search in
+    sym (sizes-fail (start .args .fun .now) (λ h. omega arith))
 
 returns-5 : tie.Need-returns-5
-returns-5 c = sym (sizes-fail (c .before .before .before .before .before .before .before .before .before .before .before .before .before .before .args .fun .now) (λ h. omega arith))
+returns-5 c =
+    let start : tie.Start = search in
+    sym (sizes-fail (start .args .fun .now) (λ h. omega arith))
 
 returns-6 : tie.Need-returns-6
-returns-6 c = sym (sizes-fail (c .before .before .before .before .before .before .before .before .before .before .before .before .before .before .before .args .fun .now) (λ h. omega arith))
+returns-6 c =
+    let start : tie.Start = search in
+    sym (sizes-fail (start .args .fun .now) (λ h. omega arith))
 
 returns-7 : tie.Need-returns-7
-returns-7 c = sym (sizes-fail (c .before .before .before .before .before .before .before .before .before .before .before .before .before .before .before .before .args .fun .now) (λ h. omega arith))
+returns-7 c =
+    let start : tie.Start = search in
+    sym (sizes-fail (start .args .fun .now) (λ h. omega arith))
 
 add-result : tie.Need-add-result
 add-result c = omega arith
@@ -68,10 +82,12 @@ add-result-5 c = omega arith
 
 returns-8 : tie.Need-returns-8
 returns-8 c =
-    let w = c .before .before .before .before .before .before in
+    let wide4 : tie.After-wide4 = search in
+    let start : tie.Start = search in
+    let w = wide4 in
     rw (w .before .before .before .before .before .before .wide .ensures, w .before .before .wide3 .ensures, w .wide4 .ensures)
     (sym
-    (sizes-whole (c .before .before .before .before .before .before .before .before .before .before .before .before .before .before .before .before .args .fun .now) (omega arith) (omega arith) (omega arith) (omega arith) (omega arith) (omega arith)))
+    (sizes-whole (start .args .fun .now) (omega arith) (omega arith) (omega arith) (omega arith) (omega arith) (omega arith)))
 
 pub function-sizes-spec : {M : Type 1} → statement M
 function-sizes-spec =

@@ -16,7 +16,9 @@ may-follow-requires c κs = search needs
 returns : tie.Need-returns
 unfolding item-ok
 returns c =
-    let d = ap (may-follow (c .before .before .before .before .args .before)) (c .before .before .op-of .ensures) in
+    let op-of : tie.After-op-of = search in
+    let start : tie.Start = search in
+    let d = ap (may-follow (start .args .before)) (op-of .op-of .ensures) in
     let e = sym d ∙ sym (c .before .may-follow .ensures) ∙ not-true _ (c .if1 .taken) in
     rw e
 
@@ -26,8 +28,11 @@ arg-ok-requires c κs = search needs
 returns-2 : tie.Need-returns-2
 unfolding item-ok
 returns-2 c =
-    let d = ap (may-follow (c .before .before .before .before .before .args .before)) (c .before .before .before .op-of .ensures) in
-    let e = sym d ∙ sym (c .before .before .may-follow .ensures) ∙ not-false _ (c .before .if1 .left) in
+    let may-follow′ : tie.After-may-follow = search in
+    let op-of : tie.After-op-of = search in
+    let start : tie.Start = search in
+    let d = ap (may-follow (start .args .before)) (op-of .op-of .ensures) in
+    let e = sym d ∙ sym (may-follow′ .may-follow .ensures) ∙ not-false _ (c .before .if1 .left) in
     rw e (c .arg-ok .ensures)
 
 pub item-ok-spec : {M : Type 1} → statement M

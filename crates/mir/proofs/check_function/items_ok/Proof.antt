@@ -38,7 +38,8 @@ nitems-requires c κs = search needs
 loop-holds : tie.Need-loop-holds Inv-loop μ-loop
 unfolding items-ok
 loop-holds c =
-    let fn = c .before .before .args .fun .now in
+    let start : tie.Start Inv-loop μ-loop = search in
+    let fn = start .args .fun .now in
     let e : c .nitems .result - 0 ≡ nitems fn = omega arith in
     (search needs, search needs, search needs, ap (λ (k : ℕ). items-from fn k 0 0 0) e)
 
@@ -47,9 +48,12 @@ begins-requires c κs = search needs
 
 returns : tie.Need-returns Inv-loop μ-loop
 returns c =
-    let l = c .before .before .before .before .before in
+    let then1 : tie.Then1 Inv-loop μ-loop = search in
+    let begins : tie.After-begins Inv-loop μ-loop = search in
+    let loop : tie.At-loop Inv-loop μ-loop = search in
+    let l = loop in
     let fn = l .before .before .before .args .fun .now in
-    let e = sym (c .before .before .before .begins .ensures) ∙ c .before .before .if1 .taken in
+    let e = sym (begins .begins .ensures) ∙ then1 .if1 .taken in
     sym (items-torn fn (l .before .nitems .result) (l .loop .i) (l .loop .b) (l .loop .before) (omega arith) e (c .before .if2 .taken) (c .if3 .taken)) ∙ l .loop .inv .3
 
 add-b : tie.Need-add-b Inv-loop μ-loop
@@ -60,8 +64,10 @@ item-ok-requires c κs = (search needs, (search needs, turn c .few))
 
 returns-2 : tie.Need-returns-2 Inv-loop μ-loop
 returns-2 c =
-    let t = turn (c .before .before) in
-    let l = c .before .before .before .before .before in
+    let joined1 : tie.Joined1 Inv-loop μ-loop = search in
+    let loop : tie.At-loop Inv-loop μ-loop = search in
+    let t = turn (joined1) in
+    let l = loop in
     let e = sym (c .before .item-ok .ensures) ∙ not-true _ (c .if4 .taken) in
     sym (t .fails e) ∙ l .loop .inv .3
 
@@ -79,11 +85,14 @@ loop-less c = omega arith
 
 loop-again : tie.Need-loop-again Inv-loop μ-loop
 loop-again c =
-    let j = c .before .before .before .before in
+    let else4 : tie.Else4 Inv-loop μ-loop = search in
+    let item-ok : tie.After-item-ok Inv-loop μ-loop = search in
+    let joined1 : tie.Joined1 Inv-loop μ-loop = search in
+    let j = joined1 in
     let t = turn j in
     let l = j .before .before .before in
     let fn = l .before .before .before .args .fun .now in
-    let e = sym (c .before .before .before .item-ok .ensures) ∙ not-false _ (c .before .before .if4 .left) in
+    let e = sym (item-ok .item-ok .ensures) ∙ not-false _ (else4 .if4 .left) in
     let d = c .after .ensures ∙ ap (after (j .if1 .before)) (c .before .op-of .ensures) in (
       rw (c .after .ensures) (after-most (j .if1 .before) (c .before .op-of .result) (t .few)),
       omega (arith, t .counted),

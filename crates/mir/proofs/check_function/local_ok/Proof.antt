@@ -13,7 +13,8 @@ shared-slice-read-n c = omega arith
 returns : tie.Need-returns
 unfolding type-usable
 returns c =
-    let a = c .before .before .before .args in
+    let start : tie.Start = search in
+    let a = start .args in
     rw (le-ltb (a .t) (ntypes (a .types .now)) (c .if1 .taken))
 
 wide-requires : tie.Need-wide-requires
@@ -25,8 +26,10 @@ kind-of-requires c κs = search needs
 returns-2 : tie.Need-returns-2
 unfolding type-usable
 returns-2 c =
-    let a = c .before .before .before .before .before .args in
-    rw (c .kind-of .ensures, c .before .wide .ensures, lt-ltb (a .t) (ntypes (a .types .now)) (c .before .before .if1 .left))
+    let else1 : tie.Else1 = search in
+    let start : tie.Start = search in
+    let a = start .args in
+    rw (c .kind-of .ensures, c .before .wide .ensures, lt-ltb (a .t) (ntypes (a .types .now)) (else1 .if1 .left))
 
 pub local-ok-spec : {M : Type 1} → statement M
 local-ok-spec =

@@ -35,13 +35,19 @@ abbrev μ-loop : tie.MeasureT-loop
 μ-loop types locals n l₀ l = n - l
 
 returns : tie.Need-returns Inv-loop μ-loop
-returns c = let a = c .before .before .before .args in sym (locals-none (a .types .now) (a .locals .now) (c .if1 .taken))
+returns c =
+    let start : tie.Start Inv-loop μ-loop = search in
+    let a = start .args in sym (locals-none (a .types .now) (a .locals .now) (c .if1 .taken))
 
 returns-2 : tie.Need-returns-2 Inv-loop μ-loop
-returns-2 c = let a = c .before .before .before .before .args in sym (locals-many (a .types .now) (a .locals .now) (c .if2 .taken))
+returns-2 c =
+    let start : tie.Start Inv-loop μ-loop = search in
+    let a = start .args in sym (locals-many (a .types .now) (a .locals .now) (c .if2 .taken))
 
 loop-holds : tie.Need-loop-holds Inv-loop μ-loop
-loop-holds c = let a = c .before .before .before .before .args in (search needs, all-none (local-ok (a .types .now) (a .locals .now)))
+loop-holds c =
+    let start : tie.Start Inv-loop μ-loop = search in
+    let a = start .args in (search needs, all-none (local-ok (a .types .now) (a .locals .now)))
 
 mul-local-ok : tie.Need-mul-local-ok Inv-loop μ-loop
 mul-local-ok c = omega arith
@@ -55,7 +61,8 @@ local-ok-requires c κs = search needs
 returns-3 : tie.Need-returns-3 Inv-loop μ-loop
 unfolding local-ok type-usable
 returns-3 c =
-    let l = c .before .before .before .before in
+    let loop : tie.At-loop Inv-loop μ-loop = search in
+    let l = loop in
     let a = l .before .before .before .before .before .args in
     let e = sym (c .before .local-ok .ensures) ∙ not-true _ (c .if3 .taken) in
     sym (locals-each (a .types .now) (a .locals .now) (omega arith) (omega arith) ∙ all-fails (local-ok (a .types .now) (a .locals .now)) (length (a .locals .now)) (l .loop .l) (omega arith) e)
@@ -69,7 +76,8 @@ loop-less c = omega arith
 loop-again : tie.Need-loop-again Inv-loop μ-loop
 unfolding local-ok type-usable
 loop-again c =
-    let l = c .before .before .before .before in
+    let loop : tie.At-loop Inv-loop μ-loop = search in
+    let l = loop in
     let a = l .before .before .before .before .before .args in
     let e = sym (c .before .local-ok .ensures) ∙ not-false _ (c .if3 .left) in
     (search needs, all-next (local-ok (a .types .now) (a .locals .now)) (l .loop .inv .1) e)

@@ -33,8 +33,10 @@ index-2-result c = omega arith
 returns-2 : tie.Need-returns-2
 unfolding follow-table rows
 returns-2 c =
-    let a = c .before .before .before .before .args in
-    rw (c .before .wide2 .ensures, c .before .before .wide .ensures) (may-follow-entry (a .before) (a .next) (omega arith) (omega arith))
+    let wide : tie.After-wide = search in
+    let start : tie.Start = search in
+    let a = start .args in
+    rw (c .before .wide2 .ensures, wide .wide .ensures) (may-follow-entry (a .before) (a .next) (omega arith) (omega arith))
 
 pub may-follow-spec : {M : Type 1} → statement M
 may-follow-spec =

@@ -75,20 +75,25 @@ nblocks-requires c κs = search needs
 
 loop-holds : tie.Need-loop-holds Inv-loop μ-loop
 unfolding unseen all
-loop-holds c = (search needs, refl, all-none (ranked (c .before .before .args .fun .now)), λ r h. ap (λ (x : ℕ). eqb x 0) (getD-replicate 256 r 0 0 h))
+loop-holds c =
+    let start : tie.Start Inv-loop μ-loop = search in
+    (search needs, refl, all-none (ranked (start .args .fun .now)), λ r h. ap (λ (x : ℕ). eqb x 0) (getD-replicate 256 r 0 0 h))
 
 rank-of-requires : tie.Need-rank-of-requires Inv-loop μ-loop
 rank-of-requires c κs = search needs
 
 returns : tie.Need-returns Inv-loop μ-loop
 returns c =
-    let l = c .before .before .before in
+    let loop : tie.At-loop Inv-loop μ-loop = search in
+    let l = loop in
     let fn = l .before .before .before .args .fun .now in
     sym (ranks-are fn ∙ all-fails (ranked fn) (nblocks fn) (l .loop .b) (omega arith) (ranked-past fn (l .loop .b) (omega arith)))
 
 -- a rank is one of 256
 within : (c : tie.Else1 Inv-loop μ-loop) → c .before .rank-of .result < 256
-within c = let s = c .before .before .before .before .before .before in omega (arith, s .pre .most-blocks)
+within c =
+    let start : tie.Start Inv-loop μ-loop = search in
+    let s = start in omega (arith, s .pre .most-blocks)
 
 -- the mark of the block's rank says whether that was seen
 met : (c : tie.Else1 Inv-loop μ-loop)
@@ -101,16 +106,21 @@ met c =
     ∙ sym (ranked-fresh fn (l .loop .b) (omega arith))
 
 array-read-if2 : tie.Need-array-read-if2 Inv-loop μ-loop
-array-read-if2 c = omega (arith, within c, c .before .before .before .loop .inv .1)
+array-read-if2 c =
+    let loop : tie.At-loop Inv-loop μ-loop = search in
+    omega (arith, within c, loop .loop .inv .1)
 
 returns-2 : tie.Need-returns-2 Inv-loop μ-loop
 returns-2 c =
-    let l = c .before .before .before .before in
+    let loop : tie.At-loop Inv-loop μ-loop = search in
+    let l = loop in
     let fn = l .before .before .before .args .fun .now in
     sym (ranks-are fn ∙ all-fails (ranked fn) (nblocks fn) (l .loop .b) (omega arith) (sym (met (c .before)) ∙ ne-eqb _ 0 (c .if2 .taken)))
 
 array-write-seen : tie.Need-array-write-seen Inv-loop μ-loop
-array-write-seen c = omega (arith, within (c .before), c .before .before .before .before .loop .inv .1)
+array-write-seen c =
+    let loop : tie.At-loop Inv-loop μ-loop = search in
+    omega (arith, within (c .before), loop .loop .inv .1)
 
 add-b : tie.Need-add-b Inv-loop μ-loop
 add-b c = omega arith
@@ -120,11 +130,13 @@ loop-less c = omega arith
 
 loop-again : tie.Need-loop-again Inv-loop μ-loop
 loop-again c =
-    let l = c .before .before .before .before in
+    let rank-of : tie.After-rank-of Inv-loop μ-loop = search in
+    let loop : tie.At-loop Inv-loop μ-loop = search in
+    let l = loop in
     let fn = l .before .before .before .args .fun .now in
-    let e = c .before .before .rank-of .ensures in (
+    let e = rank-of .rank-of .ensures in (
       omega arith,
-      length-set (l .loop .seen) (c .before .before .rank-of .result) 1 ∙ l .loop .inv .1,
+      length-set (l .loop .seen) (rank-of .rank-of .result) 1 ∙ l .loop .inv .1,
       all-next (ranked fn) (l .loop .inv .2) (sym (met (c .before)) ∙ eq-eqb _ 0 (c .if2 .left)),
       rw e (marks-next fn (l .loop .b) (l .loop .seen) (l .loop .inv .1) (omega (arith, within (c .before), e)) (l .loop .inv .3)),
     )

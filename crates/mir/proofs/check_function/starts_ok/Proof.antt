@@ -41,7 +41,9 @@ nitems-requires : tie.Need-nitems-requires Inv-loop μ-loop
 nitems-requires c κs = search needs
 
 loop-holds : tie.Need-loop-holds Inv-loop μ-loop
-loop-holds c = (search needs, all-none (placed (c .before .before .before .args .fun .now)))
+loop-holds c =
+    let start : tie.Start Inv-loop μ-loop = search in
+    (search needs, all-none (placed (start .args .fun .now)))
 
 start-of-requires : tie.Need-start-of-requires Inv-loop μ-loop
 start-of-requires c κs = search needs
@@ -52,14 +54,16 @@ stop-of-requires c κs = search needs
 returns : tie.Need-returns Inv-loop μ-loop
 unfolding starts-ok
 returns c =
-    let l = c .before .before .before .before in
+    let loop : tie.At-loop Inv-loop μ-loop = search in
+    let l = loop in
     let fn = l .before .before .before .before .args .fun .now in
     sym (all-fails (placed fn) (nblocks fn) (l .loop .b) (omega arith) (placed-empty fn (l .loop .b) (omega arith)))
 
 returns-2 : tie.Need-returns-2 Inv-loop μ-loop
 unfolding starts-ok
 returns-2 c =
-    let l = c .before .before .before .before .before in
+    let loop : tie.At-loop Inv-loop μ-loop = search in
+    let l = loop in
     let fn = l .before .before .before .before .args .fun .now in
     sym (all-fails (placed fn) (nblocks fn) (l .loop .b) (omega arith) (placed-past fn (l .loop .b) (omega arith) (omega arith)))
 
@@ -71,7 +75,8 @@ loop-less c = omega arith
 
 loop-again : tie.Need-loop-again Inv-loop μ-loop
 loop-again c =
-    let l = c .before .before .before .before .before in
+    let loop : tie.At-loop Inv-loop μ-loop = search in
+    let l = loop in
     let fn = l .before .before .before .before .args .fun .now in
     (search needs, all-next (placed fn) (l .loop .inv .1) (placed-inside fn (l .loop .b) (omega arith) (omega arith)))
 

@@ -25,7 +25,9 @@ shared-slice-read-result c = omega arith
 
 returns : tie.Need-returns
 unfolding arg
-returns c = rw (c .before .before .ops-at .ensures, c .before .nitems .ensures)
+returns c =
+    let ops-at : tie.After-ops-at = search in
+    rw (ops-at .ops-at .ensures, c .before .nitems .ensures)
 
 pub arg-of-spec : {M : Type 1} → statement M
 arg-of-spec =

@@ -40,10 +40,12 @@ part-result-end c = omega arith
 returns : tie.Need-returns
 unfolding args-part
 returns c =
-    let o = c .before .before .ops-at .result + c .before .nitems .result in
-    let a = c .before .before .before .before .args in
+    let ops-at : tie.After-ops-at = search in
+    let start : tie.Start = search in
+    let o = ops-at .ops-at .result + c .before .nitems .result in
+    let a = start .args in
     let e : (o + a .j) - (o + a .i) ≡ a .j - a .i = omega arith in
-    rw (e, c .before .before .ops-at .ensures, c .before .nitems .ensures)
+    rw (e, ops-at .ops-at .ensures, c .before .nitems .ensures)
 
 pub args-from-spec : {M : Type 1} → statement M
 args-from-spec =

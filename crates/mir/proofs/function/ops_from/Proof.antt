@@ -31,8 +31,9 @@ part-result-end c = omega arith
 returns : tie.Need-returns
 unfolding ops-part
 returns c =
+    let start : tie.Start = search in
     let o = c .before .ops-at .result in
-    let a = c .before .before .before .args in
+    let a = start .args in
     let e : (o + a .j) - (o + a .i) ≡ a .j - a .i = omega arith in
     rw (e, c .before .ops-at .ensures)
 

@@ -31,7 +31,10 @@ wide-requires c κs = search needs
 
 returns : tie.Need-returns
 unfolding rank
-returns c = rw (c .wide .ensures, c .before .before .before .nlocals .ensures, c .before .before .nblocks .ensures)
+returns c =
+    let nblocks : tie.After-nblocks = search in
+    let nlocals : tie.After-nlocals = search in
+    rw (c .wide .ensures, nlocals .nlocals .ensures, nblocks .nblocks .ensures)
 
 pub rank-of-spec : {M : Type 1} → statement M
 rank-of-spec =

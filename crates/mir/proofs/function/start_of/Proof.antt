@@ -25,7 +25,9 @@ wide-requires c κs = search needs
 
 returns : tie.Need-returns
 unfolding start
-returns c = rw (c .wide .ensures, c .before .before .nlocals .ensures)
+returns c =
+    let nlocals : tie.After-nlocals = search in
+    rw (c .wide .ensures, nlocals .nlocals .ensures)
 
 pub start-of-spec : {M : Type 1} → statement M
 start-of-spec =

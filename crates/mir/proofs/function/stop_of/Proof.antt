@@ -38,12 +38,14 @@ nitems-requires c κs = search needs
 
 returns : tie.Need-returns
 returns c =
-    let a = c .before .before .before .before .args in
+    let start : tie.Start = search in
+    let a = start .args in
     c .start-of .ensures ∙ sym (stop-next (a .fun .now) (a .b) (omega arith))
 
 returns-2 : tie.Need-returns-2
 returns-2 c =
-    let a = c .before .before .before .before .args in
+    let start : tie.Start = search in
+    let a = start .args in
     c .nitems .ensures ∙ sym (stop-last (a .fun .now) (a .b) (omega arith))
 
 pub stop-of-spec : {M : Type 1} → statement M

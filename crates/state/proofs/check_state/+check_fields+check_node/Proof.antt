@@ -117,10 +117,14 @@ module _ (t : ℕ) where
 
   check-fields-returns-2 : check-fields-lts.Need-returns-2 check-fields-claims check-fields-at check-fields.Post
   check-fields-returns-2 c =
-      no-end _ _ (absent-one (c .before .before .before .first-kid .ensures .all) (c .before .before .check-node .ensures .1 (c .enum-told .given .1)))
+      let check-node : check-fields-lts.After-check-node check-fields-claims check-fields-at check-fields.Post = search in
+      let first-kid : check-fields-lts.After-first-kid check-fields-claims check-fields-at check-fields.Post = search in
+      no-end _ _ (absent-one (first-kid .first-kid .ensures .all) (check-node .check-node .ensures .1 (c .enum-told .given .1)))
 
   check-fields-rest-of-kids-requires : check-fields-lts.Need-rest-of-kids-requires check-fields-claims check-fields-at check-fields.Post
-  check-fields-rest-of-kids-requires c κs = c .before .before .before .before .first-kid .ensures .left
+  check-fields-rest-of-kids-requires c κs =
+      let first-kid : check-fields-lts.After-first-kid check-fields-claims check-fields-at check-fields.Post = search in
+      first-kid .first-kid .ensures .left
 
   check-fields-check-fields-requires : check-fields-lts.Need-check-fields-requires check-fields-claims check-fields-at check-fields.Post
   check-fields-check-fields-requires c κs =
@@ -176,10 +180,11 @@ module _ (t : ℕ) where
 
   check-node-returns-3 : check-node-lts.Need-returns-3 check-node-claims check-node-at check-node.Post
   check-node-returns-3 c =
+      let joined2 : check-node-lts.Joined2 check-node-claims check-node-at check-node.Post = search in
       let s : Node-start = search in
       let p = s .pre .1 in
       let e = sym (c .before .opens .ensures) ∙ not-true (c .before .opens .result) (c .if4 .taken) in
-      no-end _ _ (⊎-elim (λ w. absent-said (ready-typed (p .0) .known) (w .0 .taken) (w .1 .left)) (λ w. absent-shut (w .left) e) (c .before .before .if2 .came))
+      no-end _ _ (⊎-elim (λ w. absent-said (ready-typed (p .0) .known) (w .0 .taken) (w .1 .left)) (λ w. absent-shut (w .left) e) (joined2 .if2 .came))
 
   check-node-returns-4 : check-node-lts.Need-returns-4 check-node-claims check-node-at check-node.Post
   check-node-returns-4 c = no-end _ _ (absent-deep (c .if5 .taken) (node-open (c .before)))

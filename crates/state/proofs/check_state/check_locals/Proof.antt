@@ -36,9 +36,11 @@ wide-requires c κs = search needs
 
 check-node-requires : tie.Need-check-node-requires Inv-loop μ-loop
 check-node-requires c κs =
-    let a = c .before .before .before .before .before .before .before .before .before .args in
-    let p = c .before .before .before .before .before .before .before .before .before .pre in
-    (p .0, (rw (c .wide .ensures) (locals-typed (a .types .now) (a .locals .now) (p .1 .0) .below (c .before .before .before .loop .l) (omega arith)), p .1 .1))
+    let loop : tie.At-loop Inv-loop μ-loop = search in
+    let start : tie.Start Inv-loop μ-loop = search in
+    let a = start .args in
+    let p = start .pre in
+    (p .0, (rw (c .wide .ensures) (locals-typed (a .types .now) (a .locals .now) (p .1 .0) .below (loop .loop .l) (omega arith)), p .1 .1))
 
 enum-known-r : tie.Need-enum-known-r Inv-loop μ-loop
 enum-known-r c = search needs
@@ -49,18 +51,26 @@ enum-told c = search needs
 -- before `returns`: a check that goes deeper than 64 levels is refused here first, at what it would wrongly find
 loop-again : tie.Need-loop-again Inv-loop μ-loop
 loop-again c =
-    let a = c .before .before .before .before .before .before .before .before .before .before .before .before .before .args in
-    let L = c .before .before .before .before .before .before .before .loop in
+    let check-node : tie.After-check-node Inv-loop μ-loop = search in
+    let wide : tie.After-wide Inv-loop μ-loop = search in
+    let loop : tie.At-loop Inv-loop μ-loop = search in
+    let start : tie.Start Inv-loop μ-loop = search in
+    let a = start .args in
+    let L = loop .loop in
     let e = c .before .r .given in
-    let h = c .before .before .before .check-node .ensures .0 (e .0 .0) (e .1) in
-    (omega arith, passed-more (L .inv .1) (omega arith) (ready-typed (c .before .before .before .before .before .before .before .before .before .before .before .before .before .pre .0) .known) (subst (λ (t : ℕ). Found (a .types .now) (a .forms .now) (a .whats .now) (a .n) levels (L .i) t (e .0 .0)) (c .before .before .before .before .wide .ensures) h))
+    let h = check-node .check-node .ensures .0 (e .0 .0) (e .1) in
+    (omega arith, passed-more (L .inv .1) (omega arith) (ready-typed (start .pre .0) .known) (subst (λ (t : ℕ). Found (a .types .now) (a .forms .now) (a .whats .now) (a .n) levels (L .i) t (e .0 .0)) (wide .wide .ensures) h))
 
 returns : tie.Need-returns Inv-loop μ-loop
 returns c =
-    let a = c .before .before .before .before .before .before .before .before .before .before .before .before .args in
-    let L = c .before .before .before .before .before .before .loop in
-    let h = c .before .before .check-node .ensures .1 (c .enum-told .given .1) in
-    (λ e. absurd (true≢false (sym e)), λ e f. passed-absent (L .inv .1) (omega arith) (subst (Absent (a .types .now) (a .forms .now) (a .whats .now) (a .n) levels (L .i)) (c .before .before .before .wide .ensures) h) f)
+    let check-node : tie.After-check-node Inv-loop μ-loop = search in
+    let wide : tie.After-wide Inv-loop μ-loop = search in
+    let loop : tie.At-loop Inv-loop μ-loop = search in
+    let start : tie.Start Inv-loop μ-loop = search in
+    let a = start .args in
+    let L = loop .loop in
+    let h = check-node .check-node .ensures .1 (c .enum-told .given .1) in
+    (λ e. absurd (true≢false (sym e)), λ e f. passed-absent (L .inv .1) (omega arith) (subst (Absent (a .types .now) (a .forms .now) (a .whats .now) (a .n) levels (L .i)) (wide .wide .ensures) h) f)
 
 add-l : tie.Need-add-l Inv-loop μ-loop
 add-l c = search needs
@@ -70,7 +80,8 @@ loop-less c = search needs
 
 returns-2 : tie.Need-returns-2 Inv-loop μ-loop
 returns-2 c =
-    let a = c .before .before .before .before .before .before .before .args in
+    let start : tie.Start Inv-loop μ-loop = search in
+    let a = start .args in
     let L = c .before .loop in (
       λ e. passed-all (L .inv .1) (omega arith) (eqb-true (L .i) (a .n) e),
       λ e f. eqb-false (L .i) (a .n) e (sym (passed-short (L .inv .1) (omega arith) f)),

@@ -50,24 +50,31 @@ module _ (Γ locals : List ℕ) (s : Model.State) where
       split r (λ e. e ∙ sym (ap (is-some {A = Forest}) (holds-decode known (held h (f e))))) (λ e. e ∙ refused (decode-refused Γ locals s (λ E k. g e (standing E k))))
 
 returns : tie.Need-returns
-returns c = misshapen (c .before .before .before .before .args .types .now) (c .before .before .before .before .args .locals .now) (value (c .before .before .before .before .args .t4)) (λ h. omega (arith, h .few))
+returns c =
+    let start : tie.Start = search in
+    misshapen (start .args .types .now) (start .args .locals .now) (value (start .args .t4)) (λ h. omega (arith, h .few))
 
 zeros-from-requires : tie.Need-zeros-from-requires
 zeros-from-requires c κs = search needs
 
 returns-2 : tie.Need-returns-2
-returns-2 c = misshapen (c .before .before .before .before .before .before .before .before .args .types .now) (c .before .before .before .before .before .before .before .before .args .locals .now) (value (c .before .before .before .before .before .before .before .before .args .t4)) (λ h. true≢false (sym (h .forms-zero) ∙ sym (c .before .zeros-from .ensures) ∙ not-true (c .before .zeros-from .result) (c .if2 .taken)))
+returns-2 c =
+    let start : tie.Start = search in
+    misshapen (start .args .types .now) (start .args .locals .now) (value (start .args .t4)) (λ h. true≢false (sym (h .forms-zero) ∙ sym (c .before .zeros-from .ensures) ∙ not-true (c .before .zeros-from .result) (c .if2 .taken)))
 
 zeros-from-requires-2 : tie.Need-zeros-from-requires-2
 zeros-from-requires-2 c κs = search needs
 
 returns-3 : tie.Need-returns-3
-returns-3 c = misshapen (c .before .before .before .before .before .before .before .before .before .before .args .types .now) (c .before .before .before .before .before .before .before .before .before .before .args .locals .now) (value (c .before .before .before .before .before .before .before .before .before .before .args .t4)) (λ h. true≢false (sym (h .whats-zero) ∙ sym (c .before .zeros-from2 .ensures) ∙ not-true (c .before .zeros-from2 .result) (c .if3 .taken)))
+returns-3 c =
+    let start : tie.Start = search in
+    misshapen (start .args .types .now) (start .args .locals .now) (value (start .args .t4)) (λ h. true≢false (sym (h .whats-zero) ∙ sym (c .before .zeros-from2 .ensures) ∙ not-true (c .before .zeros-from2 .result) (c .if3 .taken)))
 
 check-locals-requires : tie.Need-check-locals-requires
 check-locals-requires c κs =
-    let a = c .before .before .before .before .before .before .before .before .before .before .before .before .before .before .before .args in
-    let p = c .before .before .before .before .before .before .before .before .before .before .before .before .before .before .before .pre in
+    let start : tie.Start = search in
+    let a = start .args in
+    let p = start .pre in
     let lf : length (a .t4 .forms) ≡ 512 = search needs in
     let lw : length (a .t4 .whats) ≡ 512 = search needs in
     (p .0, (p .1, (omega arith, omega arith)))

@@ -45,16 +45,20 @@ shut-requires c κs = search needs
 
 returns : tie.Need-returns
 returns c =
-    let a = c .before .before .before .before .args in
-    shut-kind (a .types .now) (a .t) (a .form) (a .what) _ (c .before .before .kind-of .ensures) (sym (c .before .shut .ensures) ∙ c .if1 .taken)
+    let kind-of : tie.After-kind-of = search in
+    let start : tie.Start = search in
+    let a = start .args in
+    shut-kind (a .types .now) (a .t) (a .form) (a .what) _ (kind-of .kind-of .ensures) (sym (c .before .shut .ensures) ∙ c .if1 .taken)
 
 form-of-requires : tie.Need-form-of-requires
 form-of-requires c κs = search needs
 
 returns-2 : tie.Need-returns-2
 returns-2 c =
-    let a = c .before .before .before .before .before .before .args in
-    other-form (a .types .now) (a .t) (a .form) (a .what) _ (c .before .before .before .before .kind-of .ensures) (λ h. c .if2 .taken (c .before .form-of .ensures ∙ h))
+    let kind-of : tie.After-kind-of = search in
+    let start : tie.Start = search in
+    let a = start .args in
+    other-form (a .types .now) (a .t) (a .form) (a .what) _ (kind-of .kind-of .ensures) (λ h. c .if2 .taken (c .before .form-of .ensures ∙ h))
 
 wide16-requires : tie.Need-wide16-requires
 wide16-requires c κs = search needs
@@ -64,17 +68,29 @@ count-of-requires c κs = search needs
 
 returns-3 : tie.Need-returns-3
 returns-3 c =
-    let a = c .before .before .before .before .before .before .before .before .before .args in
-    let s = sym (c .before .before .before .before .before .before .shut .ensures) ∙ c .before .before .before .before .before .if1 .left in
-    let g = sym (c .before .before .before .before .form-of .ensures) ∙ c .before .before .before .if2 .left in
-    ap₂ ltb (c .before .wide16 .ensures) (c .count-of .ensures) ∙ in-range (a .types .now) (a .t) (a .form) (a .what) _ (c .before .before .before .before .before .before .before .kind-of .ensures) s g (c .before .before .if3 .taken)
+    let then3 : tie.Then3 = search in
+    let else2 : tie.Else2 = search in
+    let form-of : tie.After-form-of = search in
+    let else1 : tie.Else1 = search in
+    let shut : tie.After-shut = search in
+    let kind-of : tie.After-kind-of = search in
+    let start : tie.Start = search in
+    let a = start .args in
+    let s = sym (shut .shut .ensures) ∙ else1 .if1 .left in
+    let g = sym (form-of .form-of .ensures) ∙ else2 .if2 .left in
+    ap₂ ltb (c .before .wide16 .ensures) (c .count-of .ensures) ∙ in-range (a .types .now) (a .t) (a .form) (a .what) _ (kind-of .kind-of .ensures) s g (then3 .if3 .taken)
 
 returns-4 : tie.Need-returns-4
 returns-4 c =
-    let a = c .before .before .before .before .before .before .before .args in
-    let s = sym (c .before .before .before .before .shut .ensures) ∙ c .before .before .before .if1 .left in
-    let g = sym (c .before .before .form-of .ensures) ∙ c .before .if2 .left in
-    no-variant (a .types .now) (a .t) (a .form) (a .what) _ (c .before .before .before .before .before .kind-of .ensures) s g (c .if3 .left)
+    let form-of : tie.After-form-of = search in
+    let else1 : tie.Else1 = search in
+    let shut : tie.After-shut = search in
+    let kind-of : tie.After-kind-of = search in
+    let start : tie.Start = search in
+    let a = start .args in
+    let s = sym (shut .shut .ensures) ∙ else1 .if1 .left in
+    let g = sym (form-of .form-of .ensures) ∙ c .before .if2 .left in
+    no-variant (a .types .now) (a .t) (a .form) (a .what) _ (kind-of .kind-of .ensures) s g (c .if3 .left)
 
 pub opens-spec : {M : Type 1} → statement M
 opens-spec =

@@ -36,8 +36,10 @@ array-read-if1 c = search needs
 
 returns : tie.Need-returns Inv-loop μ-loop
 returns c =
-    let a = c .before .before .before .args .t1 in
-    let L = c .before .before .loop in
+    let loop : tie.At-loop Inv-loop μ-loop = search in
+    let start : tie.Start Inv-loop μ-loop = search in
+    let a = start .args .t1 in
+    let L = loop .loop in
     let l : length a ≡ 512 = search needs in
     sym (L .inv .2 ∙ zeros-at a (L .i) (omega arith) (ne-eqb (getD a (L .i) 0) 0 (c .if1 .taken)))
 
@@ -49,14 +51,17 @@ loop-less c = search needs
 
 loop-again : tie.Need-loop-again Inv-loop μ-loop
 loop-again c =
-    let a = c .before .before .before .args .t1 in
-    let L = c .before .before .loop in
+    let loop : tie.At-loop Inv-loop μ-loop = search in
+    let start : tie.Start Inv-loop μ-loop = search in
+    let a = start .args .t1 in
+    let L = loop .loop in
     let l : length a ≡ 512 = search needs in
     (omega arith, omega arith, L .inv .2 ∙ zeros-at a (L .i) (omega arith) (eq-eqb (getD a (L .i) 0) 0 (c .if1 .left)))
 
 returns-2 : tie.Need-returns-2 Inv-loop μ-loop
 returns-2 c =
-    let a = c .before .before .args .t1 in
+    let start : tie.Start Inv-loop μ-loop = search in
+    let a = start .args .t1 in
     let L = c .before .loop in
     let l : length a ≡ 512 = search needs in
     sym (L .inv .2 ∙ ap zeros (drop-of-length-le a {i = L .i} (omega arith)))

@@ -38,8 +38,9 @@ loop-less c = search needs
 
 loop-again : tie.Need-loop-again Inv-loop μ-loop
 loop-again c =
+    let start : tie.Start Inv-loop μ-loop = search in
     let L = c .before .loop in
-    let s = c .before .before .args in
+    let s = start .args in
     let a : List ℕ = s .a .now in
     let zeros : List ℕ = replicate (s .end) 0 in
     let there : L .k ≡ s .from + (L .k - s .from) = omega arith in
@@ -58,7 +59,8 @@ same-length c = search needs
 
 returns : tie.Need-returns Inv-loop μ-loop
 returns c =
-    let s = c .before .before .args in
+    let start : tie.Start Inv-loop μ-loop = search in
+    let s = start .args in
     let L = c .before .loop in
     let e : L .k - s .from ≡ s .end - s .from = omega arith in
     L .inv .3 ∙ ap (paste (s .a .now) (s .from) (drop (s .from) (replicate (s .end) 0))) e ∙ paste-cleared (s .a .now) (s .from) (s .end) (omega arith)

@@ -39,11 +39,14 @@ same-length c = simp length-set (search needs)
 
 returns : tie.Need-returns
 returns c =
-    let s = c .before .before .before .before .before .before .before .before .before .args in
-    let pre = c .before .before .before .before .before .before .before .before .before .pre in
+    let clear : tie.After-clear = search in
+    let move-down : tie.After-move-down = search in
+    let start : tie.Start = search in
+    let s = start .args in
+    let pre = start .pre in
     ap (λ (l : List ℕ). set l (s .i) 0)
-    (c .before .before .clear .ensures
-    ∙ ap (λ (l : List ℕ). cleared l (s .i + 1 + (s .n - s .j)) (s .n)) (c .before .before .before .before .before .before .move-down .ensures))
+    (clear .clear .ensures
+    ∙ ap (λ (l : List ℕ). cleared l (s .i + 1 + (s .n - s .j)) (s .n)) (move-down .move-down .ensures))
     ∙ closed-up (s .a .now) (s .n) (s .i) (s .j) (omega arith) (omega arith) (omega arith) (pre .1 .0) (pre .1 .1)
 
 pub close-up-spec : {M : Type 1} → statement M

@@ -29,10 +29,13 @@ same-length c = search needs
 
 returns : tie.Need-returns
 returns c =
-    let s = c .before .before .before .before .before .before .before .before .before .args in
-    let pre = c .before .before .before .before .before .before .before .before .before .pre in
-    c .before .before .clear .ensures
-    ∙ ap (λ (l : List ℕ). cleared l (s .i) (s .i + s .gap)) (c .before .before .before .before .before .before .move-up .ensures)
+    let clear : tie.After-clear = search in
+    let move-up : tie.After-move-up = search in
+    let start : tie.Start = search in
+    let s = start .args in
+    let pre = start .pre in
+    clear .clear .ensures
+    ∙ ap (λ (l : List ℕ). cleared l (s .i) (s .i + s .gap)) (move-up .move-up .ensures)
     ∙ room-made (s .a .now) (s .n) (s .i) (s .gap) (omega arith) (omega arith) (omega arith) (pre .1 .0) (pre .1 .1)
 
 pub make-room-spec : {M : Type 1} → statement M

@@ -50,8 +50,10 @@ loop-less c = search needs
 
 loop-again : tie.Need-loop-again Inv-loop μ-loop
 loop-again c =
-    let L = c .before .before .loop in
-    let s = c .before .before .before .args in
+    let loop : tie.At-loop Inv-loop μ-loop = search in
+    let start : tie.Start Inv-loop μ-loop = search in
+    let L = loop .loop in
+    let s = start .args in
     let a : List ℕ = s .a .now in
     let m : ℕ = L .k - s .from in
     let hs : m ≤ length (drop (s .from) a) = rw length-drop (omega arith) in
@@ -69,7 +71,8 @@ same-length c = search needs
 
 returns : tie.Need-returns Inv-loop μ-loop
 returns c =
-    let s = c .before .before .args in
+    let start : tie.Start Inv-loop μ-loop = search in
+    let s = start .args in
     let L = c .before .loop in
     let e : L .k - s .from ≡ s .end - s .from = omega arith in
     L .inv .3 ∙ ap (paste (s .a .now) (s .to) (drop (s .from) (s .a .now))) e ∙ paste-moved (s .a .now) (s .from) (s .end) (s .to)

@@ -50,8 +50,10 @@ loop-less c = search needs
 
 loop-again : tie.Need-loop-again Inv-loop μ-loop
 loop-again c =
-    let L = c .before .before .loop in
-    let s = c .before .before .before .args in
+    let loop : tie.At-loop Inv-loop μ-loop = search in
+    let start : tie.Start Inv-loop μ-loop = search in
+    let L = loop .loop in
+    let s = start .args in
     let a : List ℕ = s .a .now in
     let k : ℕ = L .k - 1 in
     let at : ℕ = s .to + (k - s .from) in
@@ -72,7 +74,8 @@ same-length c = search needs
 
 returns : tie.Need-returns Inv-loop μ-loop
 returns c =
-    let s = c .before .before .args in
+    let start : tie.Start Inv-loop μ-loop = search in
+    let s = start .args in
     let L = c .before .loop in
     let a : List ℕ = s .a .now in
     let ek : L .k ≡ s .from = omega arith in

@@ -12,29 +12,39 @@ wide16-requires c κs = search needs
 
 owner-of-requires : tie.Need-owner-of-requires
 owner-of-requires c κs =
-    let p = c .before .before .before .pre in
+    let start : tie.Start = search in
+    let p = start .pre in
     (ready-counted (p .0), (p .0 .offsets, (p .1 .0, λ e. rw (c .wide16 .ensures) (p .1 .1 .ranged e))))
 
 first-of-requires : tie.Need-first-of-requires
 first-of-requires c κs =
-    let p = c .before .before .before .before .pre in
+    let start : tie.Start = search in
+    let p = start .pre in
     (ready-sized (p .0), p .1 .0)
 
 count-of-requires : tie.Need-count-of-requires
 count-of-requires c κs =
-    let p = c .before .before .before .before .before .pre in
-    (ready-sized (p .0), rw (c .before .owner-of .ensures, c .before .before .wide16 .ensures) (owner-known (ready-typed (p .0)) _ _ (p .1 .0) (p .1 .1)))
+    let wide16 : tie.After-wide16 = search in
+    let start : tie.Start = search in
+    let p = start .pre in
+    (ready-sized (p .0), rw (c .before .owner-of .ensures, wide16 .wide16 .ensures) (owner-known (ready-typed (p .0)) _ _ (p .1 .0) (p .1 .1)))
 
 sub-count : tie.Need-sub-count
 sub-count c =
-    let p = c .before .before .before .before .before .before .pre in
-    rw (c .count-of .ensures, c .before .first-of .ensures, c .before .before .owner-of .ensures, c .before .before .before .wide16 .ensures) (first-fits (ready-typed (p .0)) _ _ (p .1 .0) (p .1 .1))
+    let owner-of : tie.After-owner-of = search in
+    let wide16 : tie.After-wide16 = search in
+    let start : tie.Start = search in
+    let p = start .pre in
+    rw (c .count-of .ensures, c .before .first-of .ensures, owner-of .owner-of .ensures, wide16 .wide16 .ensures) (first-fits (ready-typed (p .0)) _ _ (p .1 .0) (p .1 .1))
 
 returns : tie.Need-returns
 unfolding kids
 returns c =
-    let p = c .before .before .before .before .before .before .pre in
-    rw (c .count-of .ensures, c .before .first-of .ensures, c .before .before .owner-of .ensures, c .before .before .before .wide16 .ensures) (record { fields = fields-open (ready-typed (p .0)) (p .1 .0) (p .1 .1); all = refl })
+    let owner-of : tie.After-owner-of = search in
+    let wide16 : tie.After-wide16 = search in
+    let start : tie.Start = search in
+    let p = start .pre in
+    rw (c .count-of .ensures, c .before .first-of .ensures, owner-of .owner-of .ensures, wide16 .wide16 .ensures) (record { fields = fields-open (ready-typed (p .0)) (p .1 .0) (p .1 .1); all = refl })
 
 pub kids-of-spec : {M : Type 1} → statement M
 kids-of-spec = tie.close (tie.spec wide16-requires owner-of-requires first-of-requires count-of-requires sub-count returns)

@@ -69,7 +69,9 @@ module _ (t : ℕ) where
   -- the trees that its `requires` says are there, passed so far
   passed : (c : fields-end-lts.In-loop fields-end-claims fields-end-at fields-end.Post fields-end-Inv-loop fields-end-μ-loop) → let a = c .before .before .before .before .before .before .args in
       Passed (a .types .now) (a .forms .now) (a .whats .now) (a .i) (a .u) (a .j) (a .n) (c .before .before .before .before .before .before .pre .1 .1 .1 .trees) (c .before .loop .e) (c .before .loop .k)
-  passed c = c .before .loop .inv .2 (c .before .before .before .before .before .before .pre .1 .1 .1 .trees) (c .before .before .before .before .before .before .pre .1 .1 .1 .coded)
+  passed c =
+      let start : fields-end-lts.Start fields-end-claims fields-end-at fields-end.Post fields-end-Inv-loop fields-end-μ-loop = search in
+      c .before .loop .inv .2 (start .pre .1 .1 .1 .trees) (start .pre .1 .1 .1 .coded)
 
   -- the next one stands in both arrays
   next-in : (c : fields-end-lts.In-loop fields-end-claims fields-end-at fields-end.Post fields-end-Inv-loop fields-end-μ-loop) → c .before .loop .e < length (c .before .before .before .before .before .before .args .forms .now)
@@ -84,38 +86,54 @@ module _ (t : ℕ) where
   fields-end-shared-slice-read-if1 c = omega (arith, next-in (c .before))
 
   fields-end-add-e : fields-end-lts.Need-add-e fields-end-claims fields-end-at fields-end.Post fields-end-Inv-loop fields-end-μ-loop
-  fields-end-add-e c = omega (arith, next-in (c .before .before))
+  fields-end-add-e c =
+      let in-loop : fields-end-lts.In-loop fields-end-claims fields-end-at fields-end.Post fields-end-Inv-loop fields-end-μ-loop = search in
+      omega (arith, next-in (in-loop))
 
   fields-end-add-part-at : fields-end-lts.Need-add-part-at fields-end-claims fields-end-at fields-end.Post fields-end-Inv-loop fields-end-μ-loop
   fields-end-add-part-at c =
-      let a = c .before .before .before .before .before .before .before .before .args in
-      let p = c .before .before .before .before .before .before .before .before .pre .1 in
+      let in-loop : fields-end-lts.In-loop fields-end-claims fields-end-at fields-end.Post fields-end-Inv-loop fields-end-μ-loop = search in
+      let start : fields-end-lts.Start fields-end-claims fields-end-at fields-end.Post fields-end-Inv-loop fields-end-μ-loop = search in
+      let a = start .args in
+      let p = start .pre .1 in
       let T = ready-typed (p .0) in
-      omega (arith, parts-inside T (a .u) (p .1 .0 .known), T .few-parts, p .1 .0 .inside, c .before .before .loop-test .taken)
+      omega (arith, parts-inside T (a .u) (p .1 .0 .known), T .few-parts, p .1 .0 .inside, in-loop .loop-test .taken)
 
   fields-end-part-at-requires : fields-end-lts.Need-part-at-requires fields-end-claims fields-end-at fields-end.Post fields-end-Inv-loop fields-end-μ-loop
   fields-end-part-at-requires c κs =
-      let p = c .before .before .before .before .before .before .before .before .pre .1 in
-      (ready-counted (p .0), (p .0 .offsets, (p .1 .0 .known, omega (arith, p .1 .0 .inside, c .before .before .loop-test .taken))))
+      let in-loop : fields-end-lts.In-loop fields-end-claims fields-end-at fields-end.Post fields-end-Inv-loop fields-end-μ-loop = search in
+      let start : fields-end-lts.Start fields-end-claims fields-end-at fields-end.Post fields-end-Inv-loop fields-end-μ-loop = search in
+      let p = start .pre .1 in
+      (ready-counted (p .0), (p .0 .offsets, (p .1 .0 .known, omega (arith, p .1 .0 .inside, in-loop .loop-test .taken))))
 
   fields-end-node-end-requires : fields-end-lts.Need-node-end-requires fields-end-claims fields-end-at fields-end.Post fields-end-Inv-loop fields-end-μ-loop
   fields-end-node-end-requires c κs =
-      let p = c .before .before .before .before .before .before .before .before .before .pre .1 in
+      let in-loop : fields-end-lts.In-loop fields-end-claims fields-end-at fields-end.Post fields-end-Inv-loop fields-end-μ-loop = search in
+      let loop : fields-end-lts.At-loop fields-end-claims fields-end-at fields-end.Post fields-end-Inv-loop fields-end-μ-loop = search in
+      let start : fields-end-lts.Start fields-end-claims fields-end-at fields-end.Post fields-end-Inv-loop fields-end-μ-loop = search in
+      let p = start .pre .1 in
       let e = c .part-at .ensures in
-      let S = passed-split (passed (c .before .before .before)) (c .before .before .before .loop-test .taken) in
-      (omega (arith, c .before .before .before .before .loop .inv .1, c .before .before .before .before .before .before .before .before .before .pre .0), (p .0, (rw e (p .1 .0 .types _ (c .before .before .before .loop-test .taken)), record { tree = S .head; coded = rw e (S .here) })))
+      let S = passed-split (passed (in-loop)) (in-loop .loop-test .taken) in
+      (omega (arith, loop .loop .inv .1, start .pre .0), (p .0, (rw e (p .1 .0 .types _ (in-loop .loop-test .taken)), record { tree = S .head; coded = rw e (S .here) })))
 
   fields-end-add-k : fields-end-lts.Need-add-k fields-end-claims fields-end-at fields-end.Post fields-end-Inv-loop fields-end-μ-loop
-  fields-end-add-k c = omega (arith, c .before .before .loop-test .taken)
+  fields-end-add-k c =
+      let in-loop : fields-end-lts.In-loop fields-end-claims fields-end-at fields-end.Post fields-end-Inv-loop fields-end-μ-loop = search in
+      omega (arith, in-loop .loop-test .taken)
 
   fields-end-loop-less : fields-end-lts.Need-loop-less fields-end-claims fields-end-at fields-end.Post fields-end-Inv-loop fields-end-μ-loop
-  fields-end-loop-less c = omega (arith, c .before .before .loop-test .taken)
+  fields-end-loop-less c =
+      let in-loop : fields-end-lts.In-loop fields-end-claims fields-end-at fields-end.Post fields-end-Inv-loop fields-end-μ-loop = search in
+      omega (arith, in-loop .loop-test .taken)
 
   fields-end-loop-again : fields-end-lts.Need-loop-again fields-end-claims fields-end-at fields-end.Post fields-end-Inv-loop fields-end-μ-loop
   fields-end-loop-again c =
-      let p = c .before .before .before .before .before .before .before .before .pre .1 in
-      let L = c .before .before .before .loop in
-      let l = c .before .before .loop-test .taken in
+      let in-loop : fields-end-lts.In-loop fields-end-claims fields-end-at fields-end.Post fields-end-Inv-loop fields-end-μ-loop = search in
+      let loop : fields-end-lts.At-loop fields-end-claims fields-end-at fields-end.Post fields-end-Inv-loop fields-end-μ-loop = search in
+      let start : fields-end-lts.Start fields-end-claims fields-end-at fields-end.Post fields-end-Inv-loop fields-end-μ-loop = search in
+      let p = start .pre .1 in
+      let L = loop .loop in
+      let l = in-loop .loop-test .taken in
       ⊎-elim
       (λ w. (
         omega (arith, l),
@@ -125,7 +143,7 @@ module _ (t : ℕ) where
             passed-more P l (w .1 ∙ passed-folded P (ready-typed (p .0) .known) l (w .0 .taken)),
       ))
       (λ w.
-      let Q = passed (c .before .before) in
+      let Q = passed (in-loop) in
       let S = passed-split Q l in (
         omega (arith, l),
         omega (arith, L .inv .1, w .3, w .2 .ensures (S .head) (rw (w .1 .ensures) (S .here))),
@@ -146,80 +164,111 @@ module _ (t : ℕ) where
       (omega (arith, coded-in-forms (h .coded), size-pos (h .tree)), omega (arith, coded-in-whats (h .coded), size-pos (h .tree)))
 
   node-end-mul-if1 : node-end-lts.Need-mul-if1 node-end-claims node-end-at node-end.Post
-  node-end-mul-if1 c = omega (arith, node-in (c .before .before .before .before))
+  node-end-mul-if1 c =
+      let start : node-end-lts.Start node-end-claims node-end-at node-end.Post = search in
+      omega (arith, node-in (start))
 
   node-end-shared-slice-read-if1 : node-end-lts.Need-shared-slice-read-if1 node-end-claims node-end-at node-end.Post
-  node-end-shared-slice-read-if1 c = omega (arith, node-in (c .before .before .before .before .before))
+  node-end-shared-slice-read-if1 c =
+      let start : node-end-lts.Start node-end-claims node-end-at node-end.Post = search in
+      omega (arith, node-in (start))
 
   node-end-add-result : node-end-lts.Need-add-result node-end-claims node-end-at node-end.Post
-  node-end-add-result c = omega (arith, node-in (c .before .before .before .before .before .before))
+  node-end-add-result c =
+      let start : node-end-lts.Start node-end-claims node-end-at node-end.Post = search in
+      omega (arith, node-in (start))
 
   node-end-mul-wide16 : node-end-lts.Need-mul-wide16 node-end-claims node-end-at node-end.Post
-  node-end-mul-wide16 c = omega (arith, node-in (c .before .before .before .before .before .before))
+  node-end-mul-wide16 c =
+      let start : node-end-lts.Start node-end-claims node-end-at node-end.Post = search in
+      omega (arith, node-in (start))
 
   node-end-shared-slice-read-wide16 : node-end-lts.Need-shared-slice-read-wide16 node-end-claims node-end-at node-end.Post
-  node-end-shared-slice-read-wide16 c = omega (arith, node-in (c .before .before .before .before .before .before .before))
+  node-end-shared-slice-read-wide16 c =
+      let start : node-end-lts.Start node-end-claims node-end-at node-end.Post = search in
+      omega (arith, node-in (start))
 
   node-end-wide16-requires : node-end-lts.Need-wide16-requires node-end-claims node-end-at node-end.Post
   node-end-wide16-requires c κs = search needs
 
   node-end-owner-of-requires : node-end-lts.Need-owner-of-requires node-end-claims node-end-at node-end.Post
   node-end-owner-of-requires c κs =
-      let p = c .before .before .before .before .before .before .before .before .pre .1 in
-      let O = coded-opened (p .1 .1 .coded) (c .before .before .if1 .left) in
+      let else1 : node-end-lts.Else1 node-end-claims node-end-at node-end.Post = search in
+      let start : node-end-lts.Start node-end-claims node-end-at node-end.Post = search in
+      let p = start .pre .1 in
+      let O = coded-opened (p .1 .1 .coded) (else1 .if1 .left) in
       (ready-counted (p .0), (p .0 .offsets, (p .1 .0, λ e. rw (c .wide16 .ensures) (O .openable .ranged e))))
 
   node-end-first-of-requires : node-end-lts.Need-first-of-requires node-end-claims node-end-at node-end.Post
   node-end-first-of-requires c κs =
-      let p = c .before .before .before .before .before .before .before .before .before .pre .1 in
+      let start : node-end-lts.Start node-end-claims node-end-at node-end.Post = search in
+      let p = start .pre .1 in
       (ready-sized (p .0), p .1 .0)
 
   node-end-count-of-requires : node-end-lts.Need-count-of-requires node-end-claims node-end-at node-end.Post
   node-end-count-of-requires c κs =
-      let a = c .before .before .before .before .before .before .before .before .before .before .args in
-      let p = c .before .before .before .before .before .before .before .before .before .before .pre .1 in
-      let O = coded-opened (p .1 .1 .coded) (c .before .before .before .before .if1 .left) in
-      (ready-sized (p .0), rw (c .before .owner-of .ensures, c .before .before .wide16 .ensures) (owner-known (ready-typed (p .0)) (a .t) _ (p .1 .0) (O .openable)))
+      let wide16 : node-end-lts.After-wide16 node-end-claims node-end-at node-end.Post = search in
+      let else1 : node-end-lts.Else1 node-end-claims node-end-at node-end.Post = search in
+      let start : node-end-lts.Start node-end-claims node-end-at node-end.Post = search in
+      let a = start .args in
+      let p = start .pre .1 in
+      let O = coded-opened (p .1 .1 .coded) (else1 .if1 .left) in
+      (ready-sized (p .0), rw (c .before .owner-of .ensures, wide16 .wide16 .ensures) (owner-known (ready-typed (p .0)) (a .t) _ (p .1 .0) (O .openable)))
 
   node-end-sub-n : node-end-lts.Need-sub-n node-end-claims node-end-at node-end.Post
   node-end-sub-n c =
-      let a = c .before .before .before .before .before .before .before .before .before .before .before .args in
-      let p = c .before .before .before .before .before .before .before .before .before .before .before .pre .1 in
-      let O = coded-opened (p .1 .1 .coded) (c .before .before .before .before .before .if1 .left) in
-      rw (c .count-of .ensures, c .before .first-of .ensures, c .before .before .owner-of .ensures, c .before .before .before .wide16 .ensures)
+      let owner-of : node-end-lts.After-owner-of node-end-claims node-end-at node-end.Post = search in
+      let wide16 : node-end-lts.After-wide16 node-end-claims node-end-at node-end.Post = search in
+      let else1 : node-end-lts.Else1 node-end-claims node-end-at node-end.Post = search in
+      let start : node-end-lts.Start node-end-claims node-end-at node-end.Post = search in
+      let a = start .args in
+      let p = start .pre .1 in
+      let O = coded-opened (p .1 .1 .coded) (else1 .if1 .left) in
+      rw (c .count-of .ensures, c .before .first-of .ensures, owner-of .owner-of .ensures, wide16 .wide16 .ensures)
       (first-fits (ready-typed (p .0)) (a .t) _ (p .1 .0) (O .openable))
 
   node-end-add-fields-end : node-end-lts.Need-add-fields-end node-end-claims node-end-at node-end.Post
-  node-end-add-fields-end c = omega (arith, node-in (c .before .before .before .before .before .before .before .before .before .before .before))
+  node-end-add-fields-end c =
+      let start : node-end-lts.Start node-end-claims node-end-at node-end.Post = search in
+      omega (arith, node-in (start))
 
   node-end-fields-end-requires : node-end-lts.Need-fields-end-requires node-end-claims node-end-at node-end.Post
   unfolding kids
   node-end-fields-end-requires c κs =
-      let p = c .before .before .before .before .before .before .before .before .before .before .before .pre .1 in
-      let O = coded-opened (p .1 .1 .coded) (c .before .before .before .before .before .if1 .left) in
-      let w = c .before .before .before .wide16 .ensures in
-      let u = c .before .before .owner-of .ensures in
+      let owner-of : node-end-lts.After-owner-of node-end-claims node-end-at node-end.Post = search in
+      let wide16 : node-end-lts.After-wide16 node-end-claims node-end-at node-end.Post = search in
+      let else1 : node-end-lts.Else1 node-end-claims node-end-at node-end.Post = search in
+      let start : node-end-lts.Start node-end-claims node-end-at node-end.Post = search in
+      let p = start .pre .1 in
+      let O = coded-opened (p .1 .1 .coded) (else1 .if1 .left) in
+      let w = wide16 .wide16 .ensures in
+      let u = owner-of .owner-of .ensures in
       let j = c .before .first-of .ensures in
       let n = c .count-of .ensures in (
-        omega (arith, node-in (c .before .before .before .before .before .before .before .before .before .before .before)),
+        omega (arith, node-in (start)),
         (p .0, (rw (n, j, u, w) (fields-open (ready-typed (p .0)) (p .1 .0) (O .openable)), record { trees = O .children; coded = rw (n, j, u, w) (O .below) })),
       )
 
   node-end-returns : node-end-lts.Need-returns node-end-claims node-end-at node-end.Post
   unfolding size
   node-end-returns c =
-      let p = c .before .before .before .before .before .before .pre .1 in
+      let start : node-end-lts.Start node-end-claims node-end-at node-end.Post = search in
+      let p = start .pre .1 in
       λ x h. omega (arith, ap size (coded-folded (ready-typed (p .0) .known) h (c .if1 .taken)))
 
   node-end-returns-2 : node-end-lts.Need-returns-2 node-end-claims node-end-at node-end.Post
   unfolding kids
   node-end-returns-2 c =
-      let w = c .before .before .before .before .wide16 .ensures in
-      let u = c .before .before .before .owner-of .ensures in
-      let j = c .before .before .first-of .ensures in
+      let first-of : node-end-lts.After-first-of node-end-claims node-end-at node-end.Post = search in
+      let owner-of : node-end-lts.After-owner-of node-end-claims node-end-at node-end.Post = search in
+      let wide16 : node-end-lts.After-wide16 node-end-claims node-end-at node-end.Post = search in
+      let else1 : node-end-lts.Else1 node-end-claims node-end-at node-end.Post = search in
+      let w = wide16 .wide16 .ensures in
+      let u = owner-of .owner-of .ensures in
+      let j = first-of .first-of .ensures in
       let n = c .before .count-of .ensures in
       λ x h.
-      let O = coded-opened h (c .before .before .before .before .before .before .if1 .left) in
+      let O = coded-opened h (else1 .if1 .left) in
       omega (arith, c .fields-end .ensures (O .children) (rw (n, j, u, w) (O .below)), O .long)
 
 pub +fields-end+node-end-spec : {M : Type 1} → statement M

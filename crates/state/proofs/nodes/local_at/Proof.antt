@@ -34,9 +34,11 @@ wide-requires c κs = search needs
 
 node-end-requires : tie.Need-node-end-requires Inv-loop μ-loop
 node-end-requires c κs =
-    let a = c .before .before .before .before .before .before .before .before .before .args in
-    let p = c .before .before .before .before .before .before .before .before .before .pre in
-    let L = c .before .before .before .loop in
+    let loop : tie.At-loop Inv-loop μ-loop = search in
+    let start : tie.Start Inv-loop μ-loop = search in
+    let a = start .args in
+    let p = start .pre in
+    let L = loop .loop in
     let H = p .1 .1 .1 in
     let e = c .wide .ensures in (
       p .0,
@@ -54,7 +56,8 @@ loop-less c = search needs
 
 loop-again : tie.Need-loop-again Inv-loop μ-loop
 loop-again c =
-    let L = c .before .before .before .before .loop in (
+    let loop : tie.At-loop Inv-loop μ-loop = search in
+    let L = loop .loop in (
       omega arith,
       λ E h.
           let e = L .inv .1 E h in
@@ -63,7 +66,8 @@ loop-again c =
 
 returns : tie.Need-returns Inv-loop μ-loop
 returns c =
-    let a = c .before .before .before .before .before .before .before .args in
+    let start : tie.Start Inv-loop μ-loop = search in
+    let a = start .args in
     let L = c .before .loop in
     let e : L .k ≡ a .l = omega arith in
     λ E h. L .inv .1 E h ∙ ap (λ (k : ℕ). sizes (firsts k E)) e

@@ -39,8 +39,10 @@ loop-less c = search needs
 
 loop-again : tie.Need-loop-again Inv-loop μ-loop
 loop-again c =
-    let s = c .before .before .before .args in
-    let L = c .before .before .loop in
+    let loop : tie.At-loop Inv-loop μ-loop = search in
+    let start : tie.Start Inv-loop μ-loop = search in
+    let s = start .args in
+    let L = loop .loop in
     let hb : L .i < length blank = omega (arith, length-blank) in (
       omega arith,
       simp length-set (L .inv .1),
@@ -50,7 +52,8 @@ loop-again c =
 returns : tie.Need-returns Inv-loop μ-loop
 unfolding fronted
 returns c =
-    let s = c .before .before .args in
+    let start : tie.Start Inv-loop μ-loop = search in
+    let s = start .args in
     let L = c .before .loop in
     let e : L .i ≡ s .n = omega arith in
     L .inv .2 ∙ ap (front blank (s .share .now)) e ∙ ap (λ (l : List ℕ). take (s .n) (s .share .now) ++ l) (drop-blank (s .n))

@@ -38,8 +38,9 @@ loop-less c = search needs
 
 loop-again : tie.Need-loop-again Inv-loop μ-loop
 loop-again c =
+    let start : tie.Start Inv-loop μ-loop = search in
     let L = c .before .loop in
-    let s = c .before .before .args in
+    let s = start .args in
     let l : length (s .t1) ≡ 512 = search needs in (
       omega arith,
       simp length-set (L .inv .1),
@@ -51,7 +52,8 @@ same-length c = search needs
 
 returns : tie.Need-returns Inv-loop μ-loop
 returns c =
-    let s = c .before .before .args in
+    let start : tie.Start Inv-loop μ-loop = search in
+    let s = start .args in
     let L = c .before .loop in
     let l : length (s .t1) ≡ 512 = search needs in
     let e : L .i ≡ 512 = omega arith in

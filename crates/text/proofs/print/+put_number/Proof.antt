@@ -45,18 +45,25 @@ module _ (t : ℕ) where
   cast-put c = search needs
 
   put-requires : put-number-lts.Need-put-requires claims put-number-at put-number.Post
-  put-requires c κs = omega (arith, number-some (c .before .before .before .args .n))
+  put-requires c κs =
+      let start : put-number-lts.Start claims put-number-at put-number.Post = search in
+      omega (arith, number-some (start .args .n))
 
   same-length : put-number-lts.Need-same-length claims put-number-at put-number.Post
   same-length c = search needs
 
   returns : put-number-lts.Need-returns claims put-number-at put-number.Post
   returns c =
-      let n : ℕ = c .before .before .before .before .before .before .args .n in
-      rw (number-one n (c .before .before .before .before .if1 .taken)) (c .before .before .put .ensures)
+      let put : put-number-lts.After-put claims put-number-at put-number.Post = search in
+      let then1 : put-number-lts.Then1 claims put-number-at put-number.Post = search in
+      let start : put-number-lts.Start claims put-number-at put-number.Post = search in
+      let n : ℕ = start .args .n in
+      rw (number-one n (then1 .if1 .taken)) (put .put .ensures)
 
   put-number-requires : put-number-lts.Need-put-number-requires claims put-number-at put-number.Post
-  put-number-requires c κs = omega (arith, longer (c .before .before .before) (c .before .if1 .left))
+  put-number-requires c κs =
+      let start : put-number-lts.Start claims put-number-at put-number.Post = search in
+      omega (arith, longer (start) (c .before .if1 .left))
 
   add-put-2 : put-number-lts.Need-add-put-2 claims put-number-at put-number.Post
   add-put-2 c = search needs
@@ -66,18 +73,25 @@ module _ (t : ℕ) where
 
   put-requires-2 : put-number-lts.Need-put-requires-2 claims put-number-at put-number.Post
   put-requires-2 c κs =
-      let s = c .before .before .before .before .before .before .before in
-      let w = c .before .before .before .put-number .ensures in
-      omega (arith, longer s (c .before .before .before .before .before .if1 .left), w .end, w .long, s .pre)
+      let put-number : put-number-lts.After-put-number claims put-number-at put-number.Post = search in
+      let else1 = put-number .before .before in
+      let start = else1 .before .before in
+      let s = start in
+      let w = put-number .put-number .ensures in
+      omega (arith, longer s (else1 .if1 .left), w .end, w .long, s .pre)
 
   same-length-2 : put-number-lts.Need-same-length-2 claims put-number-at put-number.Post
   same-length-2 c = search needs
 
   returns-2 : put-number-lts.Need-returns-2 claims put-number-at put-number.Post
   returns-2 c =
-      let s = c .before .before .before .before .before .before .before .before .before .before in
-      rw (tenth s (c .before .before .before .before .before .before .before .before .if1 .left))
-      (writes-then (c .before .before .before .before .before .before .put-number .ensures) (c .before .before .put2 .ensures))
+      let put2 : put-number-lts.After-put2 claims put-number-at put-number.Post = search in
+      let put-number : put-number-lts.After-put-number claims put-number-at put-number.Post = search in
+      let else1 = put-number .before .before in
+      let start = else1 .before .before in
+      let s = start in
+      rw (tenth s (else1 .if1 .left))
+      (writes-then (put-number .put-number .ensures) (put2 .put2 .ensures))
 
 pub +put-number-spec : {M : Type 1} → statement M
 +put-number-spec = close μ-put-number λ t. put-number-lts.spec (claims t)

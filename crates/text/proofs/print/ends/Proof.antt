@@ -14,7 +14,8 @@ wide-requires c κs = search needs
 
 returns : tie.Need-returns
 returns c =
-    let s = c .before .before .before .before in
+    let start : tie.Start = search in
+    let s = start in
     ends-over (s .args .out .now) (s .pre .0) (s .args .k) (omega arith)
 
 add-is-point : tie.Need-add-is-point
@@ -31,7 +32,8 @@ is-point-requires c κs = search needs
 
 returns-2 : tie.Need-returns-2
 returns-2 c =
-    let s = c .before .before .before .before .before .before in
+    let start : tie.Start = search in
+    let s = start in
     c .is-point .ensures ∙ ends-there (s .args .out .now) (s .pre .0) (s .args .k) (omega arith)
 
 pub ends-spec : {M : Type 1} → statement M

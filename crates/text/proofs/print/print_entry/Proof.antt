@@ -48,29 +48,41 @@ ends-requires c κs = search needs
 
 put-requires : tie.Need-put-requires
 put-requires c κs =
-    let s = c .before .before .before .before .before .before .before .before .before .before .before .before .before in
-    let w = c .before .before .before .before .before .put-entry .ensures in
-    omega (arith, length-entry (word (s .args .out .now) (2 + s .args .k), word (s .args .out .now) (2 + c .before .before .before .before .before .before .before .before .before .wide .result + s .args .k)), w .end, w .long, s .pre)
+    let put-entry : tie.After-put-entry = search in
+    let wide : tie.After-wide = search in
+    let start : tie.Start = search in
+    let s = start in
+    let w = put-entry .put-entry .ensures in
+    omega (arith, length-entry (word (s .args .out .now) (2 + s .args .k), word (s .args .out .now) (2 + wide .wide .result + s .args .k)), w .end, w .long, s .pre)
 
 same-length : tie.Need-same-length
 same-length c = search needs
 
 returns : tie.Need-returns
 returns c =
-    let s = c .before .before .before .before .before .before .before .before .before .before .before .before .before .before .before .before in
+    let put : tie.After-put = search in
+    let then1 : tie.Then1 = search in
+    let ends : tie.After-ends = search in
+    let put-entry : tie.After-put-entry = search in
+    let wide : tie.After-wide = search in
+    let start : tie.Start = search in
+    let s = start in
     writes-same
-    (first-there (s .args .out .now) (s .pre .0) (s .args .k) _ (s .pre .1 .0) (c .before .before .before .before .before .before .before .before .before .before .before .before .wide .ensures) (sym (c .before .before .before .before .if1 .taken) ∙ c .before .before .before .before .before .ends .ensures))
-    (writes-then (c .before .before .before .before .before .before .before .before .put-entry .ensures) (c .before .before .put .ensures))
+    (first-there (s .args .out .now) (s .pre .0) (s .args .k) _ (s .pre .1 .0) (wide .wide .ensures) (sym (then1 .if1 .taken) ∙ ends .ends .ensures))
+    (writes-then (put-entry .put-entry .ensures) (put .put .ensures))
 
 same-length-2 : tie.Need-same-length-2
 same-length-2 c = search needs
 
 returns-2 : tie.Need-returns-2
 returns-2 c =
-    let s = c .before .before .before .before .before .before .before .before .before .before .before .before in
+    let put-entry : tie.After-put-entry = search in
+    let wide : tie.After-wide = search in
+    let start : tie.Start = search in
+    let s = start in
     writes-same
-    (first-there (s .args .out .now) (s .pre .0) (s .args .k) _ (s .pre .1 .0) (c .before .before .before .before .before .before .before .before .wide .ensures) (sym (c .if1 .left) ∙ c .before .ends .ensures))
-    (rw append-nil (c .before .before .before .before .put-entry .ensures))
+    (first-there (s .args .out .now) (s .pre .0) (s .args .k) _ (s .pre .1 .0) (wide .wide .ensures) (sym (c .if1 .left) ∙ c .before .ends .ensures))
+    (rw append-nil (put-entry .put-entry .ensures))
 
 pub print-entry-spec : {M : Type 1} → statement M
 print-entry-spec =

@@ -40,11 +40,16 @@ loop-less c = search needs
 
 loop-again : tie.Need-loop-again Inv-loop μ-loop
 loop-again c =
-    let s = c .before .before .before .before .before .before .before .before .before .before in
-    let L = c .before .before .before .before .before .loop in
-    let w = c .before .before .print-entry .ensures in
+    let print-entry : tie.After-print-entry Inv-loop μ-loop = search in
+    let in-loop : tie.In-loop Inv-loop μ-loop = search in
+    let loop : tie.At-loop Inv-loop μ-loop = search in
+    let wide : tie.After-wide Inv-loop μ-loop = search in
+    let start : tie.Start Inv-loop μ-loop = search in
+    let s = start in
+    let L = loop .loop in
+    let w = print-entry .print-entry .ensures in
     let es = entries-of (s .args .out .now) in
-    let l : L .k < word (s .args .out .now) 1 = omega (arith, c .before .before .before .before .before .before .wide .ensures, c .before .before .before .before .loop-test .taken) in (
+    let l : L .k < word (s .args .out .now) 1 = omega (arith, wide .wide .ensures, in-loop .loop-test .taken) in (
       omega arith,
       w .long ∙ L .inv .1,
       omega (arith, w .end, length-first (drop (L .k) es)),
@@ -59,16 +64,18 @@ same-length c = search needs
 
 returns : tie.Need-returns Inv-loop μ-loop
 returns c =
-    let s = c .before .before .before .before .before .before in
+    let wide : tie.After-wide Inv-loop μ-loop = search in
+    let start : tie.Start Inv-loop μ-loop = search in
+    let s = start in
     let out = s .args .out .now in
     let L = c .before .loop in
     let all : take (L .at) (L .text) ≡ entries-text (entries-of out) =
     sym (append-nil _)
-    ∙ ap (λ (t : List ℕ). take (L .at) (L .text) ++ t) (sym (text-over out (s .pre .0) (L .k) (omega (arith, c .before .before .wide .ensures))))
+    ∙ ap (λ (t : List ℕ). take (L .at) (L .text) ++ t) (sym (text-over out (s .pre .0) (L .k) (omega (arith, wide .wide .ensures))))
     ∙ L .inv .3 in
     record {
       long = L .inv .1;
-      inside = omega (arith, c .before .before .wide .ensures, s .pre);
+      inside = omega (arith, wide .wide .ensures, s .pre);
       lines = λ entry ls e. all ∙ lines-printed entry (length out) ls out e;
     }
 

@@ -11,12 +11,16 @@ slice-aggregate-put-numbered : tie.Need-slice-aggregate-put-numbered
 slice-aggregate-put-numbered c = search needs
 
 put-numbered-requires : tie.Need-put-numbered-requires
-put-numbered-requires c κs = omega (arith, length-number (c .before .before .before .args .r))
+put-numbered-requires c κs =
+    let start : tie.Start = search in
+    omega (arith, length-number (start .args .r))
 
 put-requires : tie.Need-put-requires
 put-requires c κs =
-    let s = c .before .before .before .before .before .before .before in
-    let w = c .before .before .before .put-numbered .ensures in
+    let put-numbered : tie.After-put-numbered = search in
+    let start : tie.Start = search in
+    let s = start in
+    let w = put-numbered .put-numbered .ensures in
     omega (arith, length-number (s .args .r), w .end, w .long, s .pre)
 
 same-length : tie.Need-same-length
@@ -25,9 +29,12 @@ same-length c = search needs
 returns : tie.Need-returns
 unfolding answer-text
 returns c =
-    let s = c .before .before .before .before .before .before .before .before .before .before in
-    let w = c .before .before .before .before .before .before .put-numbered .ensures in
-    let v = c .before .before .put .ensures in
+    let put : tie.After-put = search in
+    let put-numbered : tie.After-put-numbered = search in
+    let start : tie.Start = search in
+    let s = start in
+    let w = put-numbered .put-numbered .ensures in
+    let v = put .put .ensures in
     let h = writes-then w v in
     record { long = h .long; inside = omega (arith, length-number (s .args .r), w .end, v .end, s .pre); said = h .front }
 

@@ -37,8 +37,10 @@ loop-less c = search needs
 
 loop-again : tie.Need-loop-again Inv-loop μ-loop
 loop-again c =
-    let a = c .before .before .before .args in
-    let L = c .before .before .loop in (
+    let loop : tie.At-loop Inv-loop μ-loop = search in
+    let start : tie.Start Inv-loop μ-loop = search in
+    let a = start .args in
+    let L = loop .loop in (
       omega arith,
       simp length-set (L .inv .1),
       ap (λ (t : List ℕ). set t (a .at + L .i) (getD (a .s .now) (L .i) 0)) (L .inv .2)
@@ -53,7 +55,8 @@ same-length c = search needs
 
 returns : tie.Need-returns Inv-loop μ-loop
 returns c =
-    let a = c .before .before .args in
+    let start : tie.Start Inv-loop μ-loop = search in
+    let a = start .args in
     let L = c .before .loop in
     let e : L .i ≡ length (a .s .now) = omega arith in
     rw (L .inv .2, e) (writes-list (a .text .now) (a .s .now) (a .at) (length (a .s .now)) refl (omega arith))

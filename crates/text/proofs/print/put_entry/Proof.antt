@@ -29,7 +29,9 @@ other o a f0 f1 f2 f3 f4 f13 f14 f15 h =
     rw (ne-eqb o 0 f0, lt-leb o 4 (above o f0 f1 f2 f3 f4), ne-eqb o 13 f13, ne-eqb o 14 f14, ne-eqb o 15 f15) h
 
 put-number-requires : tie.Need-put-number-requires
-put-number-requires c κs = omega (arith, length-number (c .before .before .before .args .arg))
+put-number-requires c κs =
+    let start : tie.Start = search in
+    omega (arith, length-number (start .args .arg))
 
 slice-aggregate-put-all : tie.Need-slice-aggregate-put-all
 slice-aggregate-put-all c = search needs
@@ -41,13 +43,17 @@ slice-aggregate-put-numbered : tie.Need-slice-aggregate-put-numbered
 slice-aggregate-put-numbered c = search needs
 
 put-numbered-requires : tie.Need-put-numbered-requires
-put-numbered-requires c κs = omega (arith, length-number (c .before .before .before .before .args .arg))
+put-numbered-requires c κs =
+    let start : tie.Start = search in
+    omega (arith, length-number (start .args .arg))
 
 slice-aggregate-put-numbered-2 : tie.Need-slice-aggregate-put-numbered-2
 slice-aggregate-put-numbered-2 c = search needs
 
 put-numbered-requires-2 : tie.Need-put-numbered-requires-2
-put-numbered-requires-2 c κs = omega (arith, length-number (c .before .before .before .before .args .arg))
+put-numbered-requires-2 c κs =
+    let start : tie.Start = search in
+    omega (arith, length-number (start .args .arg))
 
 slice-aggregate-put-all-2 : tie.Need-slice-aggregate-put-all-2
 slice-aggregate-put-all-2 c = search needs
@@ -59,7 +65,9 @@ slice-aggregate-put-numbered-3 : tie.Need-slice-aggregate-put-numbered-3
 slice-aggregate-put-numbered-3 c = search needs
 
 put-numbered-requires-3 : tie.Need-put-numbered-requires-3
-put-numbered-requires-3 c κs = omega (arith, length-number (c .before .before .before .before .args .arg))
+put-numbered-requires-3 c κs =
+    let start : tie.Start = search in
+    omega (arith, length-number (start .args .arg))
 
 slice-aggregate-put-all-3 : tie.Need-slice-aggregate-put-all-3
 slice-aggregate-put-all-3 c = search needs
@@ -84,56 +92,88 @@ same-length c = search needs
 
 returns : tie.Need-returns
 unfolding entry-text
-returns c = arm (c .before .before .before .before .before .before .args .arg) (c .before .before .before .before .match .keys1) (c .before .before .put-number .ensures)
+returns c =
+    let put-number : tie.After-put-number = search in
+    let match-keys1 : tie.At-match-keys1 = search in
+    let start : tie.Start = search in
+    arm (start .args .arg) (match-keys1 .match .keys1) (put-number .put-number .ensures)
 
 same-length-2 : tie.Need-same-length-2
 same-length-2 c = search needs
 
 returns-2 : tie.Need-returns-2
 unfolding entry-text elem-text elem-of
-returns-2 c = arm (c .before .before .before .before .before .before .before .args .arg) (c .before .before .before .before .before .match .keys2) (c .before .before .put-all .ensures)
+returns-2 c =
+    let put-all : tie.After-put-all = search in
+    let match-keys2 : tie.At-match-keys2 = search in
+    let start : tie.Start = search in
+    arm (start .args .arg) (match-keys2 .match .keys2) (put-all .put-all .ensures)
 
 same-length-3 : tie.Need-same-length-3
 same-length-3 c = search needs
 
 returns-3 : tie.Need-returns-3
 unfolding entry-text elem-text elem-of
-returns-3 c = arm (c .before .before .before .before .before .before .before .args .arg) (c .before .before .before .before .before .match .keys3) (c .before .before .put-numbered .ensures)
+returns-3 c =
+    let put-numbered : tie.After-put-numbered = search in
+    let match-keys3 : tie.At-match-keys3 = search in
+    let start : tie.Start = search in
+    arm (start .args .arg) (match-keys3 .match .keys3) (put-numbered .put-numbered .ensures)
 
 same-length-4 : tie.Need-same-length-4
 same-length-4 c = search needs
 
 returns-4 : tie.Need-returns-4
 unfolding entry-text elem-text elem-of
-returns-4 c = arm (c .before .before .before .before .before .before .before .args .arg) (c .before .before .before .before .before .match .keys4) (c .before .before .put-numbered2 .ensures)
+returns-4 c =
+    let put-numbered2 : tie.After-put-numbered2 = search in
+    let match-keys4 : tie.At-match-keys4 = search in
+    let start : tie.Start = search in
+    arm (start .args .arg) (match-keys4 .match .keys4) (put-numbered2 .put-numbered2 .ensures)
 
 same-length-5 : tie.Need-same-length-5
 same-length-5 c = search needs
 
 returns-5 : tie.Need-returns-5
 unfolding entry-text elem-text elem-of
-returns-5 c = arm (c .before .before .before .before .before .before .before .args .arg) (c .before .before .before .before .before .match .keys5) (c .before .before .put-all2 .ensures)
+returns-5 c =
+    let put-all2 : tie.After-put-all2 = search in
+    let match-keys5 : tie.At-match-keys5 = search in
+    let start : tie.Start = search in
+    arm (start .args .arg) (match-keys5 .match .keys5) (put-all2 .put-all2 .ensures)
 
 same-length-6 : tie.Need-same-length-6
 same-length-6 c = search needs
 
 returns-6 : tie.Need-returns-6
 unfolding entry-text
-returns-6 c = arm (c .before .before .before .before .before .before .before .args .arg) (c .before .before .before .before .before .match .keys6) (c .before .before .put-numbered3 .ensures)
+returns-6 c =
+    let put-numbered3 : tie.After-put-numbered3 = search in
+    let match-keys6 : tie.At-match-keys6 = search in
+    let start : tie.Start = search in
+    arm (start .args .arg) (match-keys6 .match .keys6) (put-numbered3 .put-numbered3 .ensures)
 
 same-length-7 : tie.Need-same-length-7
 same-length-7 c = search needs
 
 returns-7 : tie.Need-returns-7
 unfolding entry-text
-returns-7 c = arm (c .before .before .before .before .before .before .before .args .arg) (c .before .before .before .before .before .match .keys7) (c .before .before .put-all3 .ensures)
+returns-7 c =
+    let put-all3 : tie.After-put-all3 = search in
+    let match-keys7 : tie.At-match-keys7 = search in
+    let start : tie.Start = search in
+    arm (start .args .arg) (match-keys7 .match .keys7) (put-all3 .put-all3 .ensures)
 
 same-length-8 : tie.Need-same-length-8
 same-length-8 c = search needs
 
 returns-8 : tie.Need-returns-8
 unfolding entry-text verb-text
-returns-8 c = arm (c .before .before .before .before .before .before .before .args .arg) (c .before .before .before .before .before .match .keys8) (c .before .before .put-all4 .ensures)
+returns-8 c =
+    let put-all4 : tie.After-put-all4 = search in
+    let match-keys8 : tie.At-match-keys8 = search in
+    let start : tie.Start = search in
+    arm (start .args .arg) (match-keys8 .match .keys8) (put-all4 .put-all4 .ensures)
 
 same-length-9 : tie.Need-same-length-9
 same-length-9 c = search needs
@@ -141,8 +181,10 @@ same-length-9 c = search needs
 returns-9 : tie.Need-returns-9
 unfolding verb-text
 returns-9 c =
-    let r = c .before .before .before .before .before .match .rest in
-    other _ _ (r .0 .0 .0 .0 .0 .0 .0 .1) (r .0 .0 .0 .0 .0 .0 .1) (r .0 .0 .0 .0 .0 .1) (r .0 .0 .0 .0 .1) (r .0 .0 .0 .1) (r .0 .0 .1) (r .0 .1) (r .1) (c .before .before .put-all5 .ensures)
+    let put-all5 : tie.After-put-all5 = search in
+    let match-rest : tie.At-match-rest = search in
+    let r = match-rest .match .rest in
+    other _ _ (r .0 .0 .0 .0 .0 .0 .0 .1) (r .0 .0 .0 .0 .0 .0 .1) (r .0 .0 .0 .0 .0 .1) (r .0 .0 .0 .0 .1) (r .0 .0 .0 .1) (r .0 .0 .1) (r .0 .1) (r .1) (put-all5 .put-all5 .ensures)
 
 pub put-entry-spec : {M : Type 1} → statement M
 put-entry-spec =

@@ -14,7 +14,10 @@ same-length : tie.Need-same-length
 same-length c = search needs
 
 returns : tie.Need-returns
-returns c = writes-then (c .before .before .before .before .before .before .put-all .ensures) (c .before .before .put-number .ensures)
+returns c =
+    let put-number : tie.After-put-number = search in
+    let put-all : tie.After-put-all = search in
+    writes-then (put-all .put-all .ensures) (put-number .put-number .ensures)
 
 pub put-numbered-spec : {M : Type 1} → statement M
 put-numbered-spec = tie.close (tie.spec put-all-requires put-number-requires same-length returns)

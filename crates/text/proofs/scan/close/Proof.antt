@@ -57,15 +57,19 @@ keeps m s words h l =
     }
 
 returns : tie.Need-returns
-returns c = steps-as (λ m h. close-outside m (sym (h .inside) ∙ not-true _ (c .if1 .taken))) (stays _ (c .before .before .before .pre))
+returns c =
+    let start : tie.Start = search in
+    steps-as (λ m h. close-outside m (sym (h .inside) ∙ not-true _ (c .if1 .taken))) (stays _ (start .pre))
 
 spoilt-requires : tie.Need-spoilt-requires
 spoilt-requires c κs = search needs
 
 returns-2 : tie.Need-returns-2
 returns-2 c =
-    steps-as (λ m h. close-full m (sym (h .inside) ∙ not-false _ (c .before .before .if1 .left)) (omega (arith, h .total)))
-    (spoils _ (c .before .before .before .before .before .pre) (c .spoilt .ensures))
+    let else1 : tie.Else1 = search in
+    let start : tie.Start = search in
+    steps-as (λ m h. close-full m (sym (h .inside) ∙ not-false _ (else1 .if1 .left)) (omega (arith, h .total)))
+    (spoils _ (start .pre) (c .spoilt .ensures))
 
 mul-words : tie.Need-mul-words
 mul-words c = search needs
@@ -81,8 +85,9 @@ same-length c = search needs
 
 returns-3 : tie.Need-returns-3
 returns-3 c =
+    let start : tie.Start = search in
     record {
-      room = simp length-set (c .before .before .before .before .pre);
+      room = simp length-set (start .pre);
       reads = λ m h. rw (close-word m (sym (h .inside) ∙ not-false _ (c .before .if1 .left)) (omega (arith, h .total))) (keeps m _ _ h (c .if2 .left));
     }
 

@@ -43,7 +43,8 @@ cast-t8 c = search needs
 
 returns-2 : tie.Need-returns-2
 returns-2 c words l =
-    let d : ℕ = c .before .before .args .d in
+    let start : tie.Start = search in
+    let d : ℕ = start .args .d in
     record {
       room = l;
       reads = λ m h. rw (digit-more d m (omega (arith, h .value))) (record {

@@ -38,7 +38,8 @@ spoilt-requires c κs = search needs
 
 returns : tie.Need-returns
 returns c =
-    steps-as (λ m h. byte-bad _ m (sym (h .fine) ∙ not-true _ (c .before .if1 .taken))) (spoils _ (c .before .before .before .before .pre) (c .spoilt .ensures))
+    let start : tie.Start = search in
+    steps-as (λ m h. byte-bad _ m (sym (h .fine) ∙ not-true _ (c .before .if1 .taken))) (spoils _ (start .pre) (c .spoilt .ensures))
 
 close-requires : tie.Need-close-requires
 close-requires c κs = search needs
@@ -57,18 +58,23 @@ same-length c = search needs
 
 returns-2 : tie.Need-returns-2
 returns-2 c =
-    let k = c .before .before .before .before in
-    steps-as (λ m h. byte-blank _ m (sym (h .fine) ∙ not-false _ (k .before .if1 .left)) (k .match .keys1)) (c .before .before .close .ensures)
+    let close : tie.After-close = search in
+    let match-keys1 : tie.At-match-keys1 = search in
+    let k = match-keys1 in
+    steps-as (λ m h. byte-blank _ m (sym (h .fine) ∙ not-false _ (k .before .if1 .left)) (k .match .keys1)) (close .close .ensures)
 
 returns-3 : tie.Need-returns-3
 returns-3 c =
-    let k = c .before .before .before .before in
-    steps-as (λ m h. byte-digit _ m (sym (h .fine) ∙ not-false _ (k .if1 .left)) (c .before .before .if2 .left) (c .before .if3 .taken))
+    let else2 : tie.Else2 = search in
+    let else1 : tie.Else1 = search in
+    let k = else1 in
+    steps-as (λ m h. byte-digit _ m (sym (h .fine) ∙ not-false _ (k .if1 .left)) (else2 .if2 .left) (c .before .if3 .taken))
     (c .digit .ensures _ (k .before .before .before .pre))
 
 returns-4 : tie.Need-returns-4
 returns-4 c =
-    let k = c .before .before in
+    let match-rest : tie.At-match-rest = search in
+    let k = match-rest in
     steps-as
     (λ m h. byte-other _ m (sym (h .fine) ∙ not-false _ (k .before .if1 .left)) (k .match .rest .1)
     (⊎-elim (λ w. inl (w .taken)) (λ w. inr (w .1 .left)) (c .before .if2 .came)))

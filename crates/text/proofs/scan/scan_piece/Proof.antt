@@ -27,13 +27,17 @@ scan-next text i m l = rw (add-one i, take-suc text i 0 l) (scan-snoc (take i te
 
 loop-holds : tie.Need-loop-holds Inv-loop μ-loop
 unfolding scan
-loop-holds c = (omega arith, stays _ (c .before .before .pre))
+loop-holds c =
+    let start : tie.Start Inv-loop μ-loop = search in
+    (omega arith, stays _ (start .pre))
 
 shared-slice-read-scan-byte : tie.Need-shared-slice-read-scan-byte Inv-loop μ-loop
 shared-slice-read-scan-byte c = search needs
 
 scan-byte-requires : tie.Need-scan-byte-requires Inv-loop μ-loop
-scan-byte-requires c κs = c .before .before .before .loop .inv .1 .room
+scan-byte-requires c κs =
+    let loop : tie.At-loop Inv-loop μ-loop = search in
+    loop .loop .inv .1 .room
 
 add-i : tie.Need-add-i Inv-loop μ-loop
 add-i c = omega arith
@@ -43,15 +47,18 @@ loop-less c = omega arith
 
 loop-again : tie.Need-loop-again Inv-loop μ-loop
 loop-again c =
-    let L = c .before .before .before .before .before .before in
-    (omega arith, steps-as (λ m h. scan-next _ (L .loop .i) m (omega arith)) (steps-on (L .loop .inv .1) (c .before .before .scan-byte .ensures)))
+    let scan-byte : tie.After-scan-byte Inv-loop μ-loop = search in
+    let loop : tie.At-loop Inv-loop μ-loop = search in
+    let L = loop in
+    (omega arith, steps-as (λ m h. scan-next _ (L .loop .i) m (omega arith)) (steps-on (L .loop .inv .1) (scan-byte .scan-byte .ensures)))
 
 same-length : tie.Need-same-length Inv-loop μ-loop
 same-length c = omega (arith, c .before .loop .inv .1 .room)
 
 returns : tie.Need-returns Inv-loop μ-loop
 returns c =
-    let text : List ℕ = c .before .before .before .before .args .text .now in
+    let start : tie.Start Inv-loop μ-loop = search in
+    let text : List ℕ = start .args .text .now in
     let e : take (c .before .loop .i) text ≡ text = take-all (c .before .loop .i) text (omega arith) in
     rw e at (c .before .loop .inv .1)
 

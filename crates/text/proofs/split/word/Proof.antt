@@ -16,10 +16,14 @@ wide-requires : tie.Need-wide-requires
 wide-requires c κs = search needs
 
 returns : tie.Need-returns
-returns c = (c .wide .ensures, omega (arith, c .wide .ensures, c .before .shared-slice-known2 .given (c .before .before .before .before .args .i)))
+returns c =
+    let start : tie.Start = search in
+    (c .wide .ensures, omega (arith, c .wide .ensures, c .before .shared-slice-known2 .given (start .args .i)))
 
 returns-2 : tie.Need-returns-2
-returns-2 c = (sym (List·getD-eq-default (c .before .before .args .words .now) 0 {n = c .before .before .args .i} (omega arith)), omega arith)
+returns-2 c =
+    let start : tie.Start = search in
+    (sym (List·getD-eq-default (start .args .words .now) 0 {n = start .args .i} (omega arith)), omega arith)
 
 pub word-spec : {M : Type 1} → statement M
 word-spec = tie.close (tie.spec mul-wide shared-slice-read-wide wide-requires returns returns-2)

@@ -22,9 +22,9 @@ pub +basic-block+goto+terminator-spec : {M : Type 1} → statement M
     (λ t. basic-block-lts.spec (basic-block-claims t) (basic-block-at t) basic-block.Post
     (enters.start-of-requires t) (enters.stop-of-requires t) (enters.slice-aggregate-pass-items t) (enters.slice-aggregate-pass-items-2 t)
     (enters.pass-items-requires t) (enters.same-length t) (enters.returns t) (enters.sub-op-of t) (enters.op-of-requires t) (enters.sub-returned t)
-    (enters.returned-requires t) (enters.same-length-2 t) (enters.returns-2 t) (enters.slice-aggregate-terminator t)
-    (enters.slice-aggregate-terminator-2 t) (enters.terminator-requires t) (enters.same-length-3 t) (enters.same-length-4 t) (enters.same-length-5 t)
-    (enters.same-length-6 t) (enters.same-length-7 t) (enters.returns-3 t))
+    (enters.slice-aggregate-returned t) (enters.slice-aggregate-returned-2 t) (enters.returned-requires t) (enters.same-length-2 t)
+    (enters.returns-2 t) (enters.slice-aggregate-terminator t) (enters.slice-aggregate-terminator-2 t) (enters.terminator-requires t)
+    (enters.same-length-3 t) (enters.same-length-4 t) (enters.same-length-5 t) (enters.same-length-6 t) (enters.same-length-7 t) (enters.returns-3 t))
     (λ t. goto-lts.spec (goto-claims t) (goto-at t) goto.Post
     (jumps.mul-if1 t) (jumps.shared-slice-read-if1 t) (jumps.meet-requires t) (jumps.same-length t) (jumps.same-length-2 t) (jumps.same-length-3 t)
     (jumps.same-length-4 t) (jumps.same-length-5 t) (jumps.returns t) (jumps.sub-t15 t) (jumps.basic-block-requires t) (jumps.same-length-6 t)

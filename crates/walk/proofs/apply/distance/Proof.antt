@@ -15,7 +15,8 @@ wide-requires c κs =
 
 add-result : tie.Need-add-result
 add-result c =
-    omega (arith, c .wide .ensures, c .before .before .fits .arg)
+    let start : tie.Start = search in
+    omega (arith, c .wide .ensures, start .fits .arg)
 
 returns : tie.Need-returns
 returns c =
@@ -24,7 +25,8 @@ returns c =
 
 returns-2 : tie.Need-returns-2
 returns-2 c =
-    let a = c .before .before .args in
+    let start : tie.Start = search in
+    let a = start .args in
     ap (λ (n : ℕ). 1 + n) (c .wide .ensures) ∙ one-add (a .arg) ∙ sym (ap distance (elem-field (a .op) (a .arg) (c .before .match .keys2)))
 
 returns-3 : tie.Need-returns-3

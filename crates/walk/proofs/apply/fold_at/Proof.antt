@@ -17,7 +17,8 @@ node-end-requires c κs = search needs
 -- the tree ends within the state
 ends : (c : tie.After-node-end) → let s = c .before .before .before .before .before .before .before .args in (s .i < c .node-end .result) × (c .node-end .result ≤ s .nodes) × (s .nodes ≤ 512)
 ends c =
-    let s = c .before .before .before .before .before .before .before in
+    let start : tie.Start = search in
+    let s = start in
     let F = s .pre .1 .1 in
     let x = F .tree in
     let cs = codes (s .args .types .now) x in
@@ -26,19 +27,26 @@ ends c =
 
 close-up-requires : tie.Need-close-up-requires
 close-up-requires c κs =
-    let E = c .before .before .before .before .before .before .before .before .pre .1 .1 .coded in
+    let start : tie.Start = search in
+    let E = start .pre .1 .1 .coded in
     (ends (c .before), (encoded-long E .0, encoded-fronted E .0))
 
 close-up-requires-2 : tie.Need-close-up-requires-2
 close-up-requires-2 c κs =
-    let E = c .before .before .before .before .before .before .before .before .before .before .before .before .pre .1 .1 .coded in
-    (ends (c .before .before .before .before .before), (encoded-long E .1, encoded-fronted E .1))
+    let node-end : tie.After-node-end = search in
+    let start : tie.Start = search in
+    let E = start .pre .1 .1 .coded in
+    (ends (node-end), (encoded-long E .1, encoded-fronted E .1))
 
 sub-result : tie.Need-sub-result
-sub-result c = omega (arith, ends (c .before .before .before .before .before .before .before .before))
+sub-result c =
+    let node-end : tie.After-node-end = search in
+    omega (arith, ends (node-end))
 
 sub-result-2 : tie.Need-sub-result-2
-sub-result-2 c = omega (arith, ends (c .before .before .before .before .before .before .before .before))
+sub-result-2 c =
+    let node-end : tie.After-node-end = search in
+    omega (arith, ends (node-end))
 
 add-result : tie.Need-add-result
 add-result c = search needs
@@ -51,13 +59,17 @@ same-length-2 c = search needs
 
 returns : tie.Need-returns
 returns c =
-    let n = c .before .before .before .before .before .before .before .before in
-    let s = c .before .before .before .before .before .before .before .before .before .before .before .before .before .before .before in
+    let close-up2 : tie.After-close-up2 = search in
+    let close-up : tie.After-close-up = search in
+    let node-end : tie.After-node-end = search in
+    let start : tie.Start = search in
+    let n = node-end in
+    let s = start in
     record {
       coded = λ b e x h E at.
           let l = length-codes (s .args .types .now) x in
           folded-encoded _ _ b (codes (s .args .types .now) x) e _ _ E at (n .node-end .ensures x h ∙ ap (λ (k : ℕ). s .args .i + k) (sym l)) (omega (arith, l, size-pos x))
-          (record { forms = c .before .before .before .before .before .before .close-up .ensures; whats = c .before .before .close-up2 .ensures; nodes = omega (arith, ends n) });
+          (record { forms = close-up .close-up .ensures; whats = close-up2 .close-up2 .ensures; nodes = omega (arith, ends n) });
     }
 
 pub fold-at-spec : {M : Type 1} → statement M

@@ -10,12 +10,14 @@ use Rattle.walk.proofs.apply.write_open.Tie as tie
 
 returns : tie.Need-returns
 returns c =
-    let s = c .before .before .before .before in
+    let start : tie.Start = search in
+    let s = start in
     (sym (marked-open _ _ _ _ (c .if1 .taken)), sym (marked-open _ _ _ _ (c .if1 .taken)))
 
 kind-of-requires : tie.Need-kind-of-requires
 kind-of-requires c κs =
-    let s = c .before .before .before .before in
+    let start : tie.Start = search in
+    let s = start in
     (s .pre .0, s .pre .1 .0)
 
 form-of-requires : tie.Need-form-of-requires
@@ -24,23 +26,28 @@ form-of-requires c κs =
 
 mul-forms : tie.Need-mul-forms
 mul-forms c =
-    omega (arith, c .before .before .before .before .before .before .pre .1 .1 .1)
+    let start : tie.Start = search in
+    omega (arith, start .pre .1 .1 .1)
 
 slice-write-forms : tie.Need-slice-write-forms
 slice-write-forms c =
-    c .before .before .before .before .before .before .pre .1 .1 .1 .0
+    let start : tie.Start = search in
+    start .pre .1 .1 .1 .0
 
 variant-requires : tie.Need-variant-requires
 variant-requires c κs =
-    c .before .before .before .before .before .before .pre .1 .1 .0
+    let start : tie.Start = search in
+    start .pre .1 .1 .0
 
 mul-whats : tie.Need-mul-whats
 mul-whats c =
-    omega (arith, c .before .before .before .before .before .before .before .pre .1 .1 .1)
+    let start : tie.Start = search in
+    omega (arith, start .pre .1 .1 .1)
 
 slice-write-whats : tie.Need-slice-write-whats
 slice-write-whats c =
-    c .before .before .before .before .before .before .before .pre .1 .1 .1 .1
+    let start : tie.Start = search in
+    start .pre .1 .1 .1 .1
 
 same-length : tie.Need-same-length
 same-length c =
@@ -52,9 +59,12 @@ same-length-2 c =
 
 returns-2 : tie.Need-returns-2
 returns-2 c =
-    let s = c .before .before .before .before .before .before .before in
-    let o = c .before .before .before .if1 .left in (
-      ap (set (s .args .forms .now) (s .args .i)) (c .before .form-of .ensures ∙ ap form (c .before .before .kind-of .ensures)) ∙ sym (marked-closed _ _ _ _ o),
+    let kind-of : tie.After-kind-of = search in
+    let else1 : tie.Else1 = search in
+    let start : tie.Start = search in
+    let s = start in
+    let o = else1 .if1 .left in (
+      ap (set (s .args .forms .now) (s .args .i)) (c .before .form-of .ensures ∙ ap form (kind-of .kind-of .ensures)) ∙ sym (marked-closed _ _ _ _ o),
       ap (set (s .args .whats .now) (s .args .i)) (c .variant .ensures) ∙ sym (marked-closed _ _ _ _ o),
     )
 

@@ -21,31 +21,40 @@ abbrev μ-loop : tie.MeasureT-loop
 
 loop-holds : tie.Need-loop-holds Inv-loop μ-loop
 loop-holds c =
-    let s = c .before .before .before .before .before .before in
+    let start : tie.Start Inv-loop μ-loop = search in
+    let s = start in
     λ g d. writing-start (turn-start (s .pre .1 .1 .0 .0) (s .pre .1 .0) (s .pre .1 .1 .1 .0))
 
 mul-op : tie.Need-mul-op Inv-loop μ-loop
 mul-op c =
-    omega (arith, c .loop-test .taken, c .before .before .before .before .before .before .before .before .pre .1 .1 .0)
+    let start : tie.Start Inv-loop μ-loop = search in
+    omega (arith, c .loop-test .taken, start .pre .1 .1 .0)
 
 shared-slice-read-op : tie.Need-shared-slice-read-op Inv-loop μ-loop
 shared-slice-read-op c =
-    omega (arith, c .before .loop-test .taken, c .before .before .before .before .before .before .before .before .before .pre .1 .1 .0)
+    let start : tie.Start Inv-loop μ-loop = search in
+    omega (arith, c .before .loop-test .taken, start .pre .1 .1 .0)
 
 mul-arg : tie.Need-mul-arg Inv-loop μ-loop
 mul-arg c =
-    omega (arith, c .before .loop-test .taken, c .before .before .before .before .before .before .before .before .before .pre .1 .1 .0)
+    let start : tie.Start Inv-loop μ-loop = search in
+    omega (arith, c .before .loop-test .taken, start .pre .1 .1 .0)
 
 shared-slice-read-arg : tie.Need-shared-slice-read-arg Inv-loop μ-loop
 shared-slice-read-arg c =
-    omega (arith, c .before .before .loop-test .taken, c .before .before .before .before .before .before .before .before .before .before .pre .1 .1 .0)
+    let in-loop : tie.In-loop Inv-loop μ-loop = search in
+    let start : tie.Start Inv-loop μ-loop = search in
+    omega (arith, in-loop .loop-test .taken, start .pre .1 .1 .0)
 
 write-open-requires : tie.Need-write-open-requires Inv-loop μ-loop
 write-open-requires c κs =
-    let s = c .before .before .before .before .before .before .before .before .before .before .before .before in
+    let in-loop : tie.In-loop Inv-loop μ-loop = search in
+    let loop : tie.At-loop Inv-loop μ-loop = search in
+    let start : tie.Start Inv-loop μ-loop = search in
+    let s = start in
     let R = s .pre .1 .1 .1 .1 in
-    let w = c .before .before .before .before .before .loop .inv (R .end) (R .leads) in
-    let l = c .before .before .before .before .loop-test .taken in
+    let w = loop .loop .inv (R .end) (R .leads) in
+    let l = in-loop .loop-test .taken in
     let h = ready-typed (s .pre .0) in
     let room = writing-room h w (R .leads) l in
     (ready-sized (s .pre .0), (w .turn .fine .known, (writing-slim h w (R .leads) l, (omega (arith, w .pen, room, R .forms, w .forms-long), omega (arith, w .pen, room, R .whats, w .whats-long)))))
@@ -124,17 +133,20 @@ loop-again c =
 
 same-length-3 : tie.Need-same-length-3 Inv-loop μ-loop
 same-length-3 c =
-    let R = c .before .before .before .before .before .before .before .before .pre .1 .1 .1 .1 in
+    let start : tie.Start Inv-loop μ-loop = search in
+    let R = start .pre .1 .1 .1 .1 in
     c .before .loop .inv (R .end) (R .leads) .forms-long
 
 same-length-4 : tie.Need-same-length-4 Inv-loop μ-loop
 same-length-4 c =
-    let R = c .before .before .before .before .before .before .before .before .pre .1 .1 .1 .1 in
+    let start : tie.Start Inv-loop μ-loop = search in
+    let R = start .pre .1 .1 .1 .1 in
     c .before .loop .inv (R .end) (R .leads) .whats-long
 
 returns-2 : tie.Need-returns-2 Inv-loop μ-loop
 returns-2 c =
-    λ g d. writing-done (ready-typed (c .before .before .before .before .before .before .before .before .pre .0)) (c .before .loop .inv g d) d (c .loop-test .left)
+    let start : tie.Start Inv-loop μ-loop = search in
+    λ g d. writing-done (ready-typed (start .pre .0)) (c .before .loop .inv g d) d (c .loop-test .left)
 
 pub write-path-spec : {M : Type 1} → statement M
 write-path-spec = tie.close (tie.spec Inv-loop μ-loop loop-holds mul-op shared-slice-read-op mul-arg shared-slice-read-arg write-open-requires distance-requires add-p step-folded-requires enum-known-s enum-told same-length same-length-2 returns add-at loop-less loop-again same-length-3 same-length-4 returns-2)

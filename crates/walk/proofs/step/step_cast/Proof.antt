@@ -31,17 +31,22 @@ wide-requires c κs =
 
 kid-count-requires : tie.Need-kid-count-requires
 kid-count-requires c κs =
-    let s = c .before .before .before .before in
+    let start : tie.Start = search in
+    let s = start in
     (s .pre .0 .typed, (s .pre .0 .offsets, (s .pre .1 .0 .known, ranged s)))
 
 returns : tie.Need-returns
 returns c =
-    let a = c .before .before .before .before .before .before .args in
-    open-field-past _ _ _ _ (a .arg) (elem-field (a .op) (a .arg) (c .before .before .before .match .keys2)) (omega (arith, c .before .kid-count .ensures, c .before .before .wide .ensures))
+    let wide : tie.After-wide = search in
+    let match-keys2 : tie.At-match-keys2 = search in
+    let start : tie.Start = search in
+    let a = start .args in
+    open-field-past _ _ _ _ (a .arg) (elem-field (a .op) (a .arg) (match-keys2 .match .keys2)) (omega (arith, c .before .kid-count .ensures, wide .wide .ensures))
 
 into-child-requires : tie.Need-into-child-requires
 into-child-requires c κs =
-    let s = c .before .before .before .before .before .before in
+    let start : tie.Start = search in
+    let s = start in
     (s .pre .0, (s .pre .1 .0 .known, (ranged s, omega (arith, c .before .kid-count .ensures))))
 
 wide-requires-2 : tie.Need-wide-requires-2
@@ -50,45 +55,63 @@ wide-requires-2 c κs =
 
 casts-requires : tie.Need-casts-requires
 casts-requires c κs =
-    let s = c .before .before .before .before in
+    let start : tie.Start = search in
+    let s = start in
     (ready-sized (s .pre .0), s .pre .1 .0 .known)
 
 returns-2 : tie.Need-returns-2
 returns-2 c =
-    let a = c .before .before .before .before .before .before .args in
-    let e : casts (a .types .now) (a .at .typ) (a .arg) ≡ false = ap (casts (a .types .now) (a .at .typ)) (sym (c .before .before .wide2 .ensures)) ∙ sym (c .before .casts .ensures) ∙ not-true _ (c .if2 .taken) in
-    open-none _ _ _ _ (a .arg) (elem-cast (a .op) (a .arg) (c .before .before .before .match .keys3)) e
+    let wide2 : tie.After-wide2 = search in
+    let match-keys3 : tie.At-match-keys3 = search in
+    let start : tie.Start = search in
+    let a = start .args in
+    let e : casts (a .types .now) (a .at .typ) (a .arg) ≡ false = ap (casts (a .types .now) (a .at .typ)) (sym (wide2 .wide2 .ensures)) ∙ sym (c .before .casts .ensures) ∙ not-true _ (c .if2 .taken) in
+    open-none _ _ _ _ (a .arg) (elem-cast (a .op) (a .arg) (match-keys3 .match .keys3)) e
 
 returns-3 : tie.Need-returns-3
 returns-3 c =
-    let a = c .before .before .before .before .before .before .before .args in
-    let e : casts (a .types .now) (a .at .typ) (a .arg) ≡ true = ap (casts (a .types .now) (a .at .typ)) (sym (c .before .before .before .wide2 .ensures)) ∙ sym (c .before .before .casts .ensures) ∙ not-false _ (c .before .if2 .left) in
-    open-other _ _ _ _ (a .arg) (elem-cast (a .op) (a .arg) (c .before .before .before .before .match .keys3)) e (λ d. c .if3 .taken (c .before .before .before .wide2 .ensures ∙ d))
+    let casts′ : tie.After-casts = search in
+    let wide2 : tie.After-wide2 = search in
+    let match-keys3 : tie.At-match-keys3 = search in
+    let start : tie.Start = search in
+    let a = start .args in
+    let e : casts (a .types .now) (a .at .typ) (a .arg) ≡ true = ap (casts (a .types .now) (a .at .typ)) (sym (wide2 .wide2 .ensures)) ∙ sym (casts′ .casts .ensures) ∙ not-false _ (c .before .if2 .left) in
+    open-other _ _ _ _ (a .arg) (elem-cast (a .op) (a .arg) (match-keys3 .match .keys3)) e (λ d. c .if3 .taken (wide2 .wide2 .ensures ∙ d))
 
 returns-4 : tie.Need-returns-4
 returns-4 c =
-    let a = c .before .before .before .args in
+    let start : tie.Start = search in
+    let a = start .args in
     open-deref _ _ _ _ (elem-deref (a .op) (a .arg) (c .match .keys1))
 
 returns-5 : tie.Need-returns-5
 returns-5 c =
-    let a = c .before .before .before .before .before .before .before .args in
-    let w : c .before .before .before .wide .result ≡ a .arg = c .before .before .before .wide .ensures in
+    let kid-count : tie.After-kid-count = search in
+    let wide : tie.After-wide = search in
+    let match-keys2 : tie.At-match-keys2 = search in
+    let start : tie.Start = search in
+    let a = start .args in
+    let w : wide .wide .result ≡ a .arg = wide .wide .ensures in
     c .into-child .ensures
     ∙ ap (λ (k : ℕ). To (folded (getD (kids (a .types .now) (a .at .typ) (a .at .what)) k 0) (a .at .added))) w
-    ∙ open-field _ _ _ _ (a .arg) (elem-field (a .op) (a .arg) (c .before .before .before .before .match .keys2)) (omega (arith, c .before .before .kid-count .ensures))
+    ∙ open-field _ _ _ _ (a .arg) (elem-field (a .op) (a .arg) (match-keys2 .match .keys2)) (omega (arith, kid-count .kid-count .ensures))
 
 returns-6 : tie.Need-returns-6
 returns-6 c =
-    let s = c .before .before .before .before .before .before .before in
+    let casts′ : tie.After-casts = search in
+    let wide2 : tie.After-wide2 = search in
+    let match-keys3 : tie.At-match-keys3 = search in
+    let start : tie.Start = search in
+    let s = start in
     let a = s .args in
-    let e : casts (a .types .now) (a .at .typ) (a .arg) ≡ true = ap (casts (a .types .now) (a .at .typ)) (sym (c .before .before .before .wide2 .ensures)) ∙ sym (c .before .before .casts .ensures) ∙ not-false _ (c .before .if2 .left) in
+    let e : casts (a .types .now) (a .at .typ) (a .arg) ≡ true = ap (casts (a .types .now) (a .at .typ)) (sym (wide2 .wide2 .ensures)) ∙ sym (casts′ .casts .ensures) ∙ not-false _ (c .before .if2 .left) in
     stays (a .at) (s .pre .1 .1)
-    ∙ open-same _ _ _ _ (a .arg) (elem-cast (a .op) (a .arg) (c .before .before .before .before .match .keys3)) e (sym (c .before .before .before .wide2 .ensures) ∙ c .if3 .left)
+    ∙ open-same _ _ _ _ (a .arg) (elem-cast (a .op) (a .arg) (match-keys3 .match .keys3)) e (sym (wide2 .wide2 .ensures) ∙ c .if3 .left)
 
 returns-7 : tie.Need-returns-7
 returns-7 c =
-    let s = c .before .before .before in
+    let start : tie.Start = search in
+    let s = start in
     let a = s .args in
     let r = c .match .rest in
     stays (a .at) (s .pre .1 .1) ∙ open-index _ _ _ _ (elem-other (a .op) (a .arg) (r .0 .0 .1) (r .0 .1) (r .1))

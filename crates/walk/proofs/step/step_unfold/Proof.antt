@@ -14,7 +14,8 @@ use Rattle.walk.proofs.step.step_unfold.Tie as tie
 
 kind-of-requires : tie.Need-kind-of-requires
 kind-of-requires c κs =
-    let s = c .before .before in
+    let start : tie.Start = search in
+    let s = start in
     (ready-sized (s .pre .0), s .pre .1 .0)
 
 shut-requires : tie.Need-shut-requires
@@ -23,27 +24,38 @@ shut-requires c κs =
 
 returns : tie.Need-returns
 returns c =
-    folded-shut _ _ _ refl (ap shut (sym (c .before .before .kind-of .ensures)) ∙ sym (c .before .shut .ensures) ∙ c .if1 .taken)
+    let kind-of : tie.After-kind-of = search in
+    folded-shut _ _ _ refl (ap shut (sym (kind-of .kind-of .ensures)) ∙ sym (c .before .shut .ensures) ∙ c .if1 .taken)
 
 returns-2 : tie.Need-returns-2
 returns-2 c =
-    folded-enum _ _ _ refl (ap shut (sym (c .before .before .before .kind-of .ensures)) ∙ sym (c .before .before .shut .ensures) ∙ c .before .if1 .left) (sym (c .before .before .before .kind-of .ensures) ∙ c .if2 .taken)
+    let shut′ : tie.After-shut = search in
+    let kind-of : tie.After-kind-of = search in
+    folded-enum _ _ _ refl (ap shut (sym (kind-of .kind-of .ensures)) ∙ sym (shut′ .shut .ensures) ∙ c .before .if1 .left) (sym (kind-of .kind-of .ensures) ∙ c .if2 .taken)
 
 kid-count-requires : tie.Need-kid-count-requires
 kid-count-requires c κs =
-    let s = c .before .before .before .before .before .before in
-    (s .pre .0 .typed, (s .pre .0 .offsets, (s .pre .1 .0, λ e. absurd (c .if2 .left (c .before .before .before .kind-of .ensures ∙ e)))))
+    let kind-of : tie.After-kind-of = search in
+    let start : tie.Start = search in
+    let s = start in
+    (s .pre .0 .typed, (s .pre .0 .offsets, (s .pre .1 .0, λ e. absurd (c .if2 .left (kind-of .kind-of .ensures ∙ e)))))
 
 add-t9 : tie.Need-add-t9
 add-t9 c =
-    let s = c .before .before .before .before .before .before .before in
-    omega (arith, c .kid-count .ensures, kids-few (ready-typed (s .pre .0)) (s .args .typ) 0 (s .pre .1 .0) (λ e. absurd (c .before .if2 .left (c .before .before .before .before .kind-of .ensures ∙ e))))
+    let kind-of : tie.After-kind-of = search in
+    let start : tie.Start = search in
+    let s = start in
+    omega (arith, c .kid-count .ensures, kids-few (ready-typed (s .pre .0)) (s .args .typ) 0 (s .pre .1 .0) (λ e. absurd (c .before .if2 .left (kind-of .kind-of .ensures ∙ e))))
 
 returns-3 : tie.Need-returns-3
 returns-3 c =
-    let a = c .before .before .before .before .before .before .before .args in
+    let else1 : tie.Else1 = search in
+    let shut′ : tie.After-shut = search in
+    let kind-of : tie.After-kind-of = search in
+    let start : tie.Start = search in
+    let a = start .args in
     ap (λ (n : ℕ). To (widened (a .typ) 0 (a .added + n))) (c .kid-count .ensures)
-    ∙ folded-index _ _ _ refl (ap shut (sym (c .before .before .before .before .kind-of .ensures)) ∙ sym (c .before .before .before .shut .ensures) ∙ c .before .before .if1 .left) (λ e. c .before .if2 .left (c .before .before .before .before .kind-of .ensures ∙ e))
+    ∙ folded-index _ _ _ refl (ap shut (sym (kind-of .kind-of .ensures)) ∙ sym (shut′ .shut .ensures) ∙ else1 .if1 .left) (λ e. c .before .if2 .left (kind-of .kind-of .ensures ∙ e))
 
 pub step-unfold-spec : {M : Type 1} → statement M
 step-unfold-spec = tie.close (tie.spec kind-of-requires shut-requires returns returns-2 kid-count-requires add-t9 returns-3)

@@ -162,6 +162,12 @@ module _ (t : ℕ) where
   pub sub-returned : basic-block-lts.Need-sub-returned (basic-block-claims t) (basic-block-at t) basic-block.Post
   sub-returned c = let k : Kept = search in some-item k
 
+  pub slice-aggregate-returned : basic-block-lts.Need-slice-aggregate-returned (basic-block-claims t) (basic-block-at t) basic-block.Post
+  slice-aggregate-returned c = search needs
+
+  pub slice-aggregate-returned-2 : basic-block-lts.Need-slice-aggregate-returned-2 (basic-block-claims t) (basic-block-at t) basic-block.Post
+  slice-aggregate-returned-2 c = search needs
+
   pub returned-requires : basic-block-lts.Need-returned-requires (basic-block-claims t) (basic-block-at t) basic-block.Post
   returned-requires c κs =
       let k : Kept = search in
