@@ -61,12 +61,13 @@ same-length c = search needs
 returns : tie.Need-returns
 returns c =
     let said = c .before .before in
-    let at-before = said .before .before .before in
-    let asked = at-before .before .before .before .before .before in
-    let at-before = asked .before .before .before .before in
-    let at-before = at-before .before in
-    let forms = at-before .before in
-    refuses-says (said .print-refusal .ensures) (sym (refused-text (asked .ghost-statements .ensures .0) (forms .store .ensures) (at-before .store2 .ensures) (at-before .buffer .ensures) (at-before .a .given .1)))
+    let told = said .before .before .before in
+    let asked = told .before .before .before .before .before in
+    let lent = asked .before .before .before .before in
+    let whats = lent .before in
+    let forms = whats .before in
+    refuses-says (said .print-refusal .ensures)
+    (sym (refused-text (asked .ghost-statements .ensures .0) (forms .store .ensures) (whats .store2 .ensures) (lent .buffer .ensures) (told .a .given .1)))
 
 same-length-2 : tie.Need-same-length-2
 same-length-2 c = search needs
