@@ -1,5 +1,6 @@
 -- Both passes, of records that pass, are model's: a first pass that is refused, and one that is followed by the second.
 use mathlib.Core.Path.{_≡_, refl, sym, ap, _∙_}
+use mathlib.Core.Logic.{_≢_}
 use mathlib.Core.Bool.{true, false}
 use mathlib.Core.List.{List}
 use mathlib.Core.Option.{Option}
@@ -8,11 +9,14 @@ use lib.ListN.{length, replicate}
 use Rattle.model.specs.Answer.{refused, done, _>>=_}
 use Rattle.model.specs.Tree.{Forest}
 use Rattle.model.specs.Place.{At}
+use Rattle.model.specs.Rounds.{elem}
 use Rattle.model.specs.Passes.{infer, elaborate, Found, analyse}
 use Rattle.model.specs.Body.{frame}
 use Rattle.model.specs.Whole.{passes}
 use Rattle.base.specs.Tests.{clash}
 use Rattle.base.specs.Answer.{split-answer, then-done}
+use Rattle.demand.specs.Whole.{Passed}
+use Rattle.demand.specs.Refused.{passes-refuse}
 use Rattle.statements.specs.declared.Out.{Out}
 use Rattle.visit.specs.declared.block.Visit.{Visit}
 use Rattle.visit.specs.declared.block.Visit.the-variants.{Over, Refused as Stopped}
@@ -58,6 +62,22 @@ module _ (Γ fn : List ℕ) where
       (λ k e. cc (pass-second Γ fn kept, I .enters, I .infers, I .same))
       (λ g e. cc (pass-second Γ fn kept, I .enters, I .infers, I .same))
 
+-- THE CASE THAT CANNOT ARISE
+
+module _ {Γ fn : List ℕ} (H : Passed Γ fn) where
+  -- the passes are not refused with 0
+  never-0 : passes Γ fn ≢ refused 0
+  unfolding elem
+  never-0 e = let z = passes-refuse H 0 e in clash (cc)
+
+  -- so neither is the first
+  pub first-sound : pass Γ fn false blank ≢ refused 0
+  first-sound e = never-0 (first-refused Γ fn 0 e)
+
+  -- nor the second
+  pub second-sound : {kept : ℕ → Option Forest} → Inferred Γ fn kept → pass Γ fn true (again kept) ≢ refused 0
+  second-sound {kept} I e = never-0 (then-second Γ fn kept I ∙ rw e refl)
+
 -- between the passes
 pub record Half (Γ fn kept fs ws : List ℕ) : Type 0 where
   pub memory : Memory
@@ -87,8 +107,8 @@ module _ {Γ fn kept fs ws out kept′ fs′ ws′ out′ : List ℕ} {v : Visit
 
 module _ {Γ fn kept fs ws : List ℕ} (H : Half Γ fn kept fs ws) where
   -- the second pass begins
-  pub second-begins : Begins Γ fn true (arrays kept (replicate 256 0) (replicate 256 0) fs ws)
-  second-begins = record { memory = again (H .memory .kept); is = H .remembers; starts = (H .memory .kept, refl, H .inferred) }
+  pub second-begins : Passed Γ fn → Begins Γ fn true (arrays kept (replicate 256 0) (replicate 256 0) fs ws)
+  second-begins P = record { memory = again (H .memory .kept); is = H .remembers; starts = (H .memory .kept, refl, H .inferred); goes = second-sound P (H .inferred) }
 
   -- and ends
   pub second-ends : {out kept′ fs′ ws′ out′ fs₀ ws₀ out₀ : List ℕ} {v : Visit}

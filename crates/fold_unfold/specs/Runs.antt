@@ -1,5 +1,6 @@
 -- The two passes over the memory that both share: the opening of a pass, one popped block, the rounds that are left.
 use mathlib.Core.Path.{_≡_}
+use mathlib.Core.Logic.{_≢_}
 use mathlib.Core.Bool.{Bool, true, false}
 use mathlib.Core.List.{List, [], _∷_, _++_}
 use mathlib.Core.Option.{Option, none, some}
@@ -55,7 +56,7 @@ blank = record { kept = λ b. none; waits = λ b. false; visited = []; lines = [
 abbrev pub again : (ℕ → Option Forest) → Memory
 again kept = record { kept = kept; waits = λ b. false; visited = []; lines = [] }
 
--- a state is stored for the block b
+-- a state is stored for the block b, and model's answer to its turn is not 0, which stands for a case that cannot arise
 pub record Stored (Γ fn : List ℕ) (b : ℕ) (a : Arrays) (out : List ℕ) (o : Out) : Type 0 where
   pub below : b < nblocks fn
   pub memory : Memory
@@ -63,6 +64,7 @@ pub record Stored (Γ fn : List ℕ) (b : ℕ) (a : Arrays) (out : List ℕ) (o 
   pub spoken : Spoken fn (o .recording) (memory .lines) out o
   pub state : Forest
   pub there : memory .kept b ≡ some state
+  pub goes : enters Γ fn (o .recording) (nblocks fn) b state (visiting b memory) ≢ refused 0
 
 -- a first pass that is not refused, and what it has stored
 pub record Inferred (Γ fn : List ℕ) (kept : ℕ → Option Forest) : Type 0 where
@@ -82,11 +84,19 @@ pub record Ranked (fn ranks : List ℕ) : Type 0 where
   pub long : length ranks ≡ nblocks fn
   pub ranks-are : (b : ℕ) → b < nblocks fn → word ranks b ≡ rank fn b
 
--- a pass begins
+-- a pass begins, and model's answer to it is not 0
 pub record Begins (Γ fn : List ℕ) (recording : Bool) (a : Arrays) : Type 0 where
   pub memory : Memory
   pub is : Remembers Γ fn memory a
   pub starts : Starts Γ fn recording memory
+  pub goes : pass Γ fn recording memory ≢ refused 0
+
+-- nor to its opening
+pub record Opening (Γ fn : List ℕ) (recording : Bool) (a : Arrays) : Type 0 where
+  pub memory : Memory
+  pub is : Remembers Γ fn memory a
+  pub lines : memory .lines ≡ []
+  pub goes : opens Γ fn recording memory ≢ refused 0
 
 -- the arrays with which it does: no block was visited, none waits
 abbrev pub fresh : List ℕ → List ℕ → List ℕ → Arrays

@@ -6,9 +6,9 @@ ghost use Rattle.moments.specs.Lent.{was, after};
 ghost use Rattle.model.specs.State.{most};
 ghost use Rattle.model.specs.Block.{join-points};
 ghost use Rattle.body.specs.Given.{Accepted};
-ghost use Rattle.visit.specs.Shares.{arrays-in, change, Shared, Held};
+ghost use Rattle.visit.specs.Shares.{arrays-in, change, Shared};
 ghost use Rattle.fold_unfold.specs.Answers.{Analysed};
-ghost use Rattle.fold_unfold.specs.Runs.{fresh, Stored, Ranked, Begins, Opens, Turns, Runs};
+ghost use Rattle.fold_unfold.specs.Runs.{fresh, Stored, Ranked, Begins, Opening, Opens, Turns, Runs};
 use body::items::Items;
 use body::items::pass_items;
 use body::items::point_of;
@@ -45,7 +45,7 @@ fn open_pass(
 ) -> Visit
     requires { ⌜ Accepted (now types) (now offs) (now fun) ⌝ }
     requires { ⌜ Shared (now fun) (now points) ⌝ }
-    requires { ⌜ Held (now types) (now fun) (arrays-in (now memo) (now waits) (now forms) (now whats)) ⌝ }
+    requires { ⌜ Opening (now types) (now fun) recording (arrays-in (now memo) (now waits) (now forms) (now whats)) ⌝ }
     ensures { λ r. ⌜ Opens (was types) (was fun) recording (change memo waits forms whats) out r ⌝ }
 {
     let mut fs = [0u16; 512];

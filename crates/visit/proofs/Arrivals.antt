@@ -12,6 +12,7 @@ use Rattle.model.specs.Answer.{Answer, refused, done, _>>=_}
 use Rattle.model.specs.Tree.{Forest, sizes, joins}
 use Rattle.model.specs.State.{most}
 use Rattle.model.specs.Typing.{Fits}
+use Rattle.model.specs.Collect.{collects}
 use Rattle.model.specs.Function.{nblocks, local-types}
 use Rattle.model.specs.Block.{is-join-point}
 use Rattle.model.specs.Frame.{mark}
@@ -23,7 +24,7 @@ use Rattle.statements.specs.declared.Out.{Out}
 use Rattle.body.specs.Uses.{point, Tells}
 use Rattle.visit.specs.Memory.{Memory, arrives}
 use Rattle.visit.specs.Shares.{arrays, Remembers}
-use Rattle.visit.specs.Visits.{Spoken, takes, Arrives, owed, Reconciles, exit, Visits}
+use Rattle.visit.specs.Visits.{Spoken, takes, Arrives, Reconciles, exit, Visits}
 use Rattle.visit.specs.declared.block.Visit.{Visit}
 use Rattle.visit.specs.declared.block.Visit.the-variants.{Over, Refused}
 use Rattle.visit.proofs.Shelves.{lent-of, shelved, shelved-length}
@@ -76,22 +77,22 @@ module _ {Γ fn : List ℕ} {m : Memory} {kept visited waits forms whats out : L
       })
 
   -- and in the second
-  second-visits₀ : {waits′ out′ : List ℕ} {v : Visit} (i : ℕ) (entry : Bool) (E : Forest) → Spoken fn true (m .lines) out o
-      → Reconciles fn (point fn entry i) c visited waits out o (owed Γ (m .kept c) E) waits′ out′ v
+  second-visits₀ : {waits′ out′ : List ℕ} {v : Visit} (i : ℕ) (entry : Bool) (E S : Forest) → m .kept c ≡ some S → Spoken fn true (m .lines) out o
+      → Reconciles fn (point fn entry i) c visited waits out o (collects Γ E S) waits′ out′ v
       → length waits′ ≡ length waits
       → Visits Γ fn true (arrays kept visited waits forms whats) out (arrives Γ fn true (exit fn entry i c E) m) (arrays kept visited waits′ forms whats) out′ v
-  second-visits₀ {waits′} {out′} {v} i entry E S A w =
+  second-visits₀ {waits′} {out′} {v} i entry E T k S A w =
       let x = exit fn entry i c E in
-      rw (second-owes Γ fn x m) (record {
+      rw (second-owes Γ fn x m k) (record {
         alike = record { kept = refl; visited = refl; waits = w; forms = refl; whats = refl };
         same = A .same;
-        denied = λ n e. A .denied n (bind-refused (owed Γ (m .kept c) E) (λ ts. marked x ts m) e);
+        denied = λ n e. A .denied n (bind-refused (collects Γ E T) (λ ts. marked x ts m) e);
         over = λ m′ e.
-            let (ts, d, z) = then-done (owed Γ (m .kept c) E) e in
+            let (ts, d, z) = then-done (collects Γ E T) e in
             let y : marked x ts m ≡ m′ = cc in
             let (q, g, P) = A .told ts d in
-            let T : Tells fn out o out′ q (mark (point fn entry i) ts) = record { told = λ u. rw (length-mark (point fn entry i) ts) P; silent = λ u. clash (cc (S .pen)) } in
-            rw (← y) (q, g, marked-remembers R l j few x ts refl (A .waiting ts d), spoken-told S T);
+            let L : Tells fn out o out′ q (mark (point fn entry i) ts) = record { told = λ u. rw (length-mark (point fn entry i) ts) P; silent = λ u. clash (cc (S .pen)) } in
+            rw (← y) (q, g, marked-remembers R l j few x ts refl (A .waiting ts d), spoken-told S L);
       })
 
   -- so where the pass does not record
@@ -107,10 +108,10 @@ module _ {Γ fn : List ℕ} {m : Memory} {kept visited waits forms whats out : L
   first-visits {recording = true} i entry E e = clash (cc)
 
   -- and where it does
-  pub second-visits : {recording : Bool} {waits′ out′ : List ℕ} {v : Visit} (i : ℕ) (entry : Bool) (E : Forest) → recording ≡ true
+  pub second-visits : {recording : Bool} {waits′ out′ : List ℕ} {v : Visit} (i : ℕ) (entry : Bool) (E S : Forest) → m .kept c ≡ some S → recording ≡ true
       → Spoken fn recording (m .lines) out o
-      → Reconciles fn (point fn entry i) c visited waits out o (owed Γ (m .kept c) E) waits′ out′ v
+      → Reconciles fn (point fn entry i) c visited waits out o (collects Γ E S) waits′ out′ v
       → length waits′ ≡ length waits
       → Visits Γ fn recording (arrays kept visited waits forms whats) out (arrives Γ fn recording (exit fn entry i c E) m) (arrays kept visited waits′ forms whats) out′ v
-  second-visits {recording = true} i entry E e = second-visits₀ i entry E
-  second-visits {recording = false} i entry E e = clash (cc)
+  second-visits {recording = true} i entry E S k e = second-visits₀ i entry E S k
+  second-visits {recording = false} i entry E S k e = clash (cc)

@@ -62,6 +62,12 @@ pub passes-block : {Γ fn out out′ : List ℕ} {o : Out} {r : After} (E : Fore
     → Passes Γ fn out o out′ (uses Γ fn false (k - i) i E) r → Passes Γ fn out o out′ (uses Γ fn false (stop fn b - start fn b) (start fn b) E) r
 passes-block {Γ} {fn} {out} {out′} {o} {r} E b e d P = subst₂ (λ (i k : ℕ). Passes Γ fn out o out′ (uses Γ fn false (k - i) i E) r) e d P
 
+-- a block whose items pass, and which doesn't return, is left
+pub enters-departs : (Γ fn : List ℕ) (recording : Bool) (n b : ℕ) → b < nblocks fn → (E : Forest) (m : Memory) {w : Forest × List (Line At)}
+    → uses Γ fn false (stop fn b - start fn b) (start fn b) E ≡ done w → returns fn b ≡ false
+    → enters Γ fn recording (suc n) b E m ≡ departs Γ fn recording n b (w .0) (telling recording (w .1) m)
+enters-departs Γ fn recording n b l E m {w} u e = enters-uses Γ fn recording n b E m l ∙ rw (u, ret-none Γ fn b (w .0) e, append-nil) refl
+
 -- a visit in the pass that the record says
 pub visits-pen : {Γ fn : List ℕ} {b recording : Bool} {x x′ : Arrays} {out out′ : List ℕ} {v : Visit} (f : Bool → Answer Memory) → b ≡ recording
     → Visits Γ fn b x out (f b) x′ out′ v → Visits Γ fn recording x out (f recording) x′ out′ v

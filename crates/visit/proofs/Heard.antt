@@ -5,7 +5,10 @@ use mathlib.Core.List.{List, [], _∷_, _++_, append-assoc, append-nil}
 use Prim.Native.Nat.{ℕ}
 use lib.ListN.{length, length-append}
 use lib.Seq.{append-snoc}
+use Rattle.model.specs.Answer.{Answer}
+use Rattle.model.specs.Tree.{Forest}
 use Rattle.model.specs.Place.{At}
+use Rattle.model.specs.Function.{local-types}
 use Rattle.model.specs.Block.{entry-point}
 use Rattle.model.specs.Frame.{Line, mark}
 use Rattle.model.specs.Passes.{hear}
@@ -17,10 +20,13 @@ use Rattle.base.specs.Tests.{clash}
 use Rattle.statements.specs.Kept.{Puts}
 use Rattle.statements.proofs.Puts.{counted-alike}
 use Rattle.statements.specs.declared.Out.{Out}
+use Rattle.state.specs.declared.nodes.State.{State}
+use Rattle.body.specs.Given.{Stated}
 use Rattle.body.specs.Uses.{point, Tells}
 use Rattle.collectors.specs.Trail.{lines-of, root}
 use Rattle.visit.specs.Memory.{Memory, hears, arrives}
-use Rattle.visit.specs.Visits.{Spoken}
+use Rattle.visit.specs.Shares.{Arrays}
+use Rattle.visit.specs.Visits.{Spoken, Ongoing}
 use Rattle.visit.proofs.Lines.{lines-at}
 
 -- lines behind lines, if the pass records
@@ -77,3 +83,13 @@ puts-tells {fn} i ts t d P = record {
   told = λ u. rw (length-mark i ts, ← lines-at (entry-point fn) i d ts) P;
   silent = λ u. clash (cc);
 }
+
+-- s holds some state
+pub stated : {Γ fn : List ℕ} {a : Arrays} {out : List ℕ} {o : Out} {s : State} {f : Bool → Forest → Memory → Answer Memory} → Ongoing Γ fn a out o s f
+    → Stated Γ (local-types fn) s
+stated O = record { state = O .state; holds = O .holds }
+
+-- what is asked next has the same answer
+pub ongoing-as : {Γ fn : List ℕ} {a : Arrays} {out : List ℕ} {o : Out} {s : State} {f g : Bool → Forest → Memory → Answer Memory} (O : Ongoing Γ fn a out o s f)
+    → f (o .recording) (O .state) (O .memory) ≡ g (o .recording) (O .state) (O .memory) → Ongoing Γ fn a out o s g
+ongoing-as O e = record { memory = O .memory; is = O .is; spoken = O .spoken; state = O .state; holds = O .holds; goes = λ d. O .goes (e ∙ d) }

@@ -1,5 +1,5 @@
 -- A block that is left by its targets, one item after the other: what is left of the way at item i, and what an item does to it.
-use mathlib.Core.Path.{_≡_, refl, ap, _∙_, subst}
+use mathlib.Core.Path.{_≡_, refl, ap, _∙_, subst, subst₂}
 use mathlib.Core.Bool.{Bool, false}
 use mathlib.Core.List.{List, [], _∷_, map}
 use mathlib.Core.Logic.{_≢_}
@@ -9,7 +9,7 @@ use lib.ListN.{length}
 use lib.Dec.{eqb}
 use borrow.Author.Tests.{lt-ltb, eq-eqb, ne-eqb}
 use Rattle.model.specs.Words.{collect-from}
-use Rattle.model.specs.Answer.{Answer, done, _>>=_}
+use Rattle.model.specs.Answer.{Answer, refused, done, _>>=_}
 use Rattle.model.specs.Tree.{Forest}
 use Rattle.model.specs.Function.{nblocks, local-types, start, stop, op, arg}
 use Rattle.model.specs.Block.{targets, matched}
@@ -135,6 +135,13 @@ module _ {Γ fn : List ℕ} {recording : Bool} {n b : ℕ} {p : Plan} {E : Fores
         chosen = cs;
         leaves = X .leaves ∙ ap (λ u. jumps Γ fn recording n u M >>= λ t. leaving Γ fn recording n b ys t) v;
       }
+
+  -- where its jump is refused the block is
+  pub aimed-refused : {i k : ℕ} {M : Memory} {r : Bool} {c : ℕ} (N : Aimed Γ fn recording n b p E m i M) → r ≡ recording → c ≡ arg fn i
+      → jumps Γ fn r n (exit fn false i c (N .state)) M ≡ refused k → departs Γ fn recording n b E m ≡ refused k
+  aimed-refused {i} {k} {M} N e z d =
+      let j = subst₂ (λ (r : Bool) (c : ℕ). jumps Γ fn r n (exit fn false i c (N .state)) M ≡ refused k) e z d in
+      N .leaves ∙ rw j refl
 
   module _ {x x′ : Arrays} {out out′ : List ℕ} {i : ℕ} {q : Out} (L : Left Γ fn recording n b p E m x out i x′ out′ q) where
     -- an item that is no target

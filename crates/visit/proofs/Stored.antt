@@ -44,7 +44,7 @@ held-full h = record {
 }
 
 -- the state loaded from a share that has S
-loaded-holds : {Γ locals fs ws : List ℕ} {k : ℕ} {S : Forest} {s : State} → Full Γ locals fs ws k S
+pub loaded-holds : {Γ locals fs ws : List ℕ} {k : ℕ} {S : Forest} {s : State} → Full Γ locals fs ws k S
     → (s .forms ≡ fronted fs (k - 1)) × (s .whats ≡ fronted ws (k - 1)) × (s .nodes ≡ k - 1) → Holds Γ locals (value s) S
 loaded-holds {Γ} {locals} {k} {S} {s} f l =
     let h = encode-shaped Γ S (f .valid .small) in
@@ -68,7 +68,12 @@ module _ (Γ locals fs ws : List ℕ) (k : ℕ) where
   saved-loaded none b n = absurd (n (b .count))
   saved-loaded (some S) f n = λ e l. record { state = S; is = refl; full = f; holds = loaded-holds f (rw e at l) }
 
-  -- where the count is 0 nothing is stored
+  -- where the count is not 0 something is stored
+  pub saved-full : (o : Option Forest) → Saved Γ locals fs ws k o → (k ≡ 0 → ⊥) → (S : Forest) × (o ≡ some S) × Full Γ locals fs ws k S
+  saved-full none b n = absurd (n (b .count))
+  saved-full (some S) f n = (S, refl, f)
+
+  -- where it is 0 nothing is
   pub saved-bare : (o : Option Forest) → Saved Γ locals fs ws k o → k ≡ 0 → o ≡ none
   saved-bare none b e = refl
   saved-bare (some S) f e = absurd (omega (arith, f .count))

@@ -1,5 +1,5 @@
 -- What an arrival leaves of the arrays is what model's arrival leaves of its memory: in the first pass `first-takes` and
--- `taken-remembers`, in the second `second-owes` and `marked-remembers`.
+-- `taken-remembers`, in the second `second-owes`, `second-none` and `marked-remembers`.
 use mathlib.Core.Path.{_≡_, refl, sym, _∙_}
 use mathlib.Core.Bool.{Bool, true, false, not, cond}
 use mathlib.Core.List.{List, _++_}
@@ -13,7 +13,7 @@ use lib.Seq.{getD-set-same, getD-set-other}
 use lib.Dec.{eqb, leb}
 use borrow.Author.Tests.{ne-eqb}
 use Rattle.model.specs.Words.{word}
-use Rattle.model.specs.Answer.{done, _>>=_}
+use Rattle.model.specs.Answer.{refused, done, _>>=_}
 use Rattle.model.specs.Tree.{Forest, sizes, joins, flagss}
 use Rattle.model.specs.State.{most}
 use Rattle.model.specs.Place.{At}
@@ -32,7 +32,7 @@ use Rattle.blocks.specs.Points.{share-number}
 use Rattle.laws.specs.Flags.{flags1-joins}
 use Rattle.visit.specs.Memory.{Memory, arrives}
 use Rattle.visit.specs.Shares.{Saved, arrays, Remembers}
-use Rattle.visit.specs.Visits.{takes, Took, owed}
+use Rattle.visit.specs.Visits.{takes, Took}
 use Rattle.visit.proofs.Shelves.{share-most, share-apart, base, lent-of, lent-share, shelved, shelved-length, shelved-same, shelved-other, shelved-rest}
 
 -- CHANGES AT ONE NUMBER
@@ -101,10 +101,15 @@ module _ (Γ fn : List ℕ) (x : Exit Forest) (m : Memory) where
       (λ r. split ((flagss Γ false S (x .state)) .0) (λ f. cc) (λ f. cc))
       (λ r. cc)))
 
-  -- and in the second
-  pub second-owes : arrives Γ fn true x m ≡ owed Γ (m .kept (x .block)) (x .state) >>= λ ts. done (marked x ts m)
-  unfolding arrive-at reconcile arrived owed frame
-  second-owes = split-option (m .kept (x .block)) (λ e. rw (e, arrive-at) refl) (λ S e. rw (e, arrive-at) (bind-bind (collects Γ (x .state) S) _ _))
+  -- and in the second, where S is stored
+  pub second-owes : {S : Forest} → m .kept (x .block) ≡ some S → arrives Γ fn true x m ≡ collects Γ (x .state) S >>= λ ts. done (marked x ts m)
+  unfolding arrive-at reconcile arrived frame
+  second-owes {S} e = rw (e, arrive-at) (bind-bind (collects Γ (x .state) S) _ _)
+
+  -- or nothing is
+  pub second-none : m .kept (x .block) ≡ none → arrives Γ fn true x m ≡ refused 0
+  unfolding arrive-at frame
+  second-none e = rw (e, arrive-at) refl
 
 -- THE FIRST PASS
 

@@ -2,13 +2,11 @@
 use mathlib.Core.Path.{_≡_, refl, ap, _∙_}
 use mathlib.Core.Bool.{Bool, not, cond}
 use mathlib.Core.List.{List}
-use mathlib.Core.Option.{none}
 use Prim.Native.Nat.{ℕ}
 use lib.Dec.{eqb}
 use lib.ListN.{length, set}
 use Rattle.model.specs.Words.{word}
 use Rattle.model.specs.Answer.{Answer}
-use Rattle.model.specs.Tree.{Forest}
 use Rattle.model.specs.Place.{At}
 use Rattle.model.specs.Block.{entry-point}
 use Rattle.model.specs.Record.{point-entry}
@@ -21,15 +19,9 @@ use Rattle.collect.specs.declared.states.Collected.{Collected}
 use Rattle.collect.specs.declared.states.Collected.the-variants as collected
 use Rattle.collect.specs.Answers.{Collects}
 use Rattle.visit.specs.declared.block.Visit.the-variants.{Over, Refused}
-use Rattle.visit.specs.Visits.{owed, Reconciles}
+use Rattle.visit.specs.Visits.{Reconciles}
 use Rattle.visit.proofs.Lines.{lines-at}
 use Rattle.visit.proofs.Stores.{unless}
-
--- where nothing is stored
-pub reconciles-none : (Γ : List ℕ) (E : Forest) {fn : List ℕ} {p c : ℕ} {visited waits out : List ℕ} {o : Out}
-    → Reconciles fn p c visited waits out o (owed Γ none E) waits out (Refused 0)
-unfolding owed
-reconciles-none Γ E = record { same = refl; denied = λ n d. cc; told = λ ts d. clash (cc); waiting = λ ts d. clash (cc) }
 
 -- by what is collected at the point p, which is x
 module _ {fn : List ℕ} {p : ℕ} {out out′ : List ℕ} {o : Out} {x : Point} (here : (x .op, x .arg) ≡ point-entry (entry-point fn) p) {a : Answer (List At)} {r : Collected}

@@ -128,8 +128,3 @@ pub record Remembers (Γ fn : List ℕ) (m : Memory) (a : Arrays) : Type 0 where
   -- past the shares the store is as it was lent: zeros
   pub forms-rest : drop (most * join-points fn) (a .forms) ≡ replicate (length (a .forms) - most * join-points fn) 0
   pub whats-rest : drop (most * join-points fn) (a .whats) ≡ replicate (length (a .whats) - most * join-points fn) 0
-
--- some memory is as the arrays say
-pub record Held (Γ fn : List ℕ) (a : Arrays) : Type 0 where
-  pub memory : Memory
-  pub is : Remembers Γ fn memory a

@@ -1,5 +1,6 @@
 -- What a visit, a jump and an arrival leave in the arrays and in the buffer.
 use mathlib.Core.Path.{_≡_}
+use mathlib.Core.Logic.{_≢_}
 use mathlib.Core.Bool.{Bool, true, false, cond}
 use mathlib.Core.List.{List}
 use mathlib.Core.Option.{Option, none, some}
@@ -43,11 +44,38 @@ pub record Spoken (fn : List ℕ) (recording : Bool) (ls : List (Line At)) (out 
   pub counted : Counted out o
   pub kept : recording ≡ true → Kept (length ls) (entries (entry-point fn) ls) out o
 
--- some memory is as the arrays and the buffer say
-pub record Ongoing (Γ fn : List ℕ) (a : Arrays) (out : List ℕ) (o : Out) : Type 0 where
+-- WHAT IS ASKED OF MODEL
+
+-- the jump to the block c by the item i, or from the entry
+abbrev pub exit : List ℕ → Bool → ℕ → ℕ → Forest → Exit Forest
+exit fn entry i c E = record { item = point fn entry i; block = c; state = E }
+
+module _ (Γ fn : List ℕ) where
+  -- a state arrives by the jump j
+  abbrev pub meeting : Jump → Bool → Forest → Memory → Answer Memory
+  meeting j b E m = arrives Γ fn b (exit fn (j .entry) (j .item) (j .block) E) m
+
+  -- the jump j is taken
+  abbrev pub jumping : Jump → Bool → Forest → Memory → Answer Memory
+  jumping j b E m = jumps Γ fn b (j .left) (exit fn (j .entry) (j .item) (j .block) E) m
+
+  -- a block is entered
+  abbrev pub entering : Way → Bool → Forest → Memory → Answer Memory
+  entering w b E m = enters Γ fn b (suc (w .left)) (w .block) E m
+
+  -- it is left by its targets, in the state that its items leave
+  abbrev pub departing : Way → Bool → Forest → Memory → Answer Memory
+  departing w b E m = departs Γ fn b (w .left) (w .block) E m
+
+-- some memory and some state are as the arrays, the buffer and s say, and model's answer to them is not 0, which stands for a case
+-- that cannot arise
+pub record Ongoing (Γ fn : List ℕ) (a : Arrays) (out : List ℕ) (o : Out) (s : State) (answer : Bool → Forest → Memory → Answer Memory) : Type 0 where
   pub memory : Memory
   pub is : Remembers Γ fn memory a
   pub spoken : Spoken fn (o .recording) (memory .lines) out o
+  pub state : Forest
+  pub holds : Holds Γ (local-types fn) (value s) state
+  pub goes : answer (o .recording) state memory ≢ refused 0
 
 -- AN ARRIVAL IN THE FIRST PASS
 
@@ -93,11 +121,6 @@ pub record Shelved (Γ fn memo fs ws : List ℕ) (c : ℕ) : Type 0 where
 
 -- AN ARRIVAL IN THE SECOND PASS
 
--- the statements from E to what is stored
-unfoldable pub owed : List ℕ → Option Forest → Forest → Answer (List At)
-owed Γ none E = refused 0
-owed Γ (some S) E = collects Γ E S
-
 pub record Reconciles (fn : List ℕ) (p c : ℕ) (visited waits : List ℕ) (out : List ℕ) (o : Out) (a : Answer (List At)) (waits′ out′ : List ℕ) (r : Visit) : Type 0 where
   pub same : length out′ ≡ length out
   pub denied : (n : ℕ) → a ≡ refused n → r ≡ Refused n
@@ -105,11 +128,18 @@ pub record Reconciles (fn : List ℕ) (p c : ℕ) (visited waits : List ℕ) (ou
       → (q : Out) × (r ≡ Over q) × Puts (length ts) out o out′ q (entries (entry-point fn) (mark p ts))
   pub waiting : (ts : List At) → a ≡ done ts → waits′ ≡ cond (eqb (word visited c) 0) (set waits c 1) waits
 
--- what `owed` gives, of whatever is stored in the share and whatever state s is
+-- a state is stored in the share of the block c
+pub record Filled (Γ fn memo fs ws : List ℕ) (c : ℕ) : Type 0 where
+  pub stored : Forest
+  pub is : Full Γ (local-types fn) fs ws (word (kept-in memo) c) stored
+  pub block : c < 256
+  pub long : 512 ≤ length memo
+
+-- the statements from whatever state s is to whatever is stored in the share
 abbrev pub Reconciling : (Γ fn : List ℕ) (j : Jump) → State → (memo fs ws : List ℕ) (waits out : Lent) → Out → Visit → Type 0
-Reconciling Γ fn j s memo fs ws waits out o r = (k : Option Forest) (E : Forest)
-    → Saved Γ (local-types fn) fs ws (word (kept-in memo) (j .block)) k → Holds Γ (local-types fn) (value s) E
-    → Reconciles fn (point fn (j .entry) (j .item)) (j .block) (visited-in memo) (was waits) (was out) o (owed Γ k E) (after waits) (after out) r
+Reconciling Γ fn j s memo fs ws waits out o r = (S E : Forest)
+    → Full Γ (local-types fn) fs ws (word (kept-in memo) (j .block)) S → Holds Γ (local-types fn) (value s) E
+    → Reconciles fn (point fn (j .entry) (j .item)) (j .block) (visited-in memo) (was waits) (was out) o (collects Γ E S) (after waits) (after out) r
 
 -- A RETURN
 
@@ -123,10 +153,6 @@ Returns Γ fn i s out o out′ r = (E : Forest) → Holds Γ (local-types fn) (v
 -- the jump from the entry
 abbrev pub start-jump : List ℕ → Jump
 start-jump fn = record { item = 0; entry = true; block = 0; left = nblocks fn }
-
--- the jump to the block c by the item i, or from the entry
-abbrev pub exit : List ℕ → Bool → ℕ → ℕ → Forest → Exit Forest
-exit fn entry i c E = record { item = point fn entry i; block = c; state = E }
 
 -- model's answer a, in the arrays and the buffer
 pub record Visits (Γ fn : List ℕ) (recording : Bool) (x : Arrays) (out : List ℕ) (a : Answer Memory) (x′ : Arrays) (out′ : List ℕ) (r : Visit) : Type 0 where
@@ -144,16 +170,16 @@ module _ (Γ fn : List ℕ) (x : Change) (out : Lent) where
 
   -- a state arrives by the jump j
   abbrev pub Meets : Jump → State → Out → Visit → Type 0
-  Meets j s o r = Visiting s o (λ b E m. arrives Γ fn b (exit fn (j .entry) (j .item) (j .block) E) m) r
+  Meets j s o r = Visiting s o (meeting Γ fn j) r
 
   -- the jump j is taken
   abbrev pub Jumps : Jump → State → Out → Visit → Type 0
-  Jumps j s o r = Visiting s o (λ b E m. jumps Γ fn b (j .left) (exit fn (j .entry) (j .item) (j .block) E) m) r
+  Jumps j s o r = Visiting s o (jumping Γ fn j) r
 
   -- a block is entered
   abbrev pub Enters : Way → State → Out → Visit → Type 0
-  Enters w s o r = Visiting s o (λ b E m. enters Γ fn b (suc (w .left)) (w .block) E m) r
+  Enters w s o r = Visiting s o (entering Γ fn w) r
 
   -- it is left by its targets, in the state s that its items leave
   abbrev pub Departs : Way → State → Out → Visit → Type 0
-  Departs w s o r = Visiting s o (λ b E m. departs Γ fn b (w .left) (w .block) E m) r
+  Departs w s o r = Visiting s o (departing Γ fn w) r

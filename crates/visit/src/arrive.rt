@@ -6,7 +6,7 @@ ghost use Rattle.moments.specs.Lent.{was, after};
 ghost use Rattle.model.specs.Function.{nitems, local-types};
 ghost use Rattle.statements.specs.Kept.{Counted};
 ghost use Rattle.body.specs.Given.{Accepted, Stated};
-ghost use Rattle.visit.specs.Visits.{Tests, Shelved, Arriving, Steady, Reconciling};
+ghost use Rattle.visit.specs.Visits.{Tests, Shelved, Filled, Arriving, Steady, Reconciling};
 use crate::block::Jump;
 use crate::block::Visit;
 use crate::memory::set_stored;
@@ -140,7 +140,7 @@ pub fn reconcile<'a>(
 ) -> Visit
     requires { ⌜ Accepted (now types) (now offs) (now fun) ⌝ }
     requires { ⌜ Stated (now types) (local-types (now fun)) s ⌝ }
-    requires { ⌜ Shelved (now types) (now fun) (now memo) (now forms) (now whats) (j .block) ⌝ }
+    requires { ⌜ Filled (now types) (now fun) (now memo) (now forms) (now whats) (j .block) ⌝ }
     requires { ⌜ j .block < length (now waits) ⌝ }
     requires { ⌜ j .item < nitems (now fun) ⌝ }
     requires { ⌜ Counted (now out) o ⌝ }
@@ -149,9 +149,6 @@ pub fn reconcile<'a>(
 {
     let c = j.block;
     let k = stored(memo, c);
-    if k == 0 {
-        return Visit::Refused(0);
-    }
     let to = load_state(forms, whats, wide(k) - 1);
     let a = collect_fold_unfolds(
         types,

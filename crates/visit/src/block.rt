@@ -10,7 +10,7 @@ ghost use Rattle.statements.specs.Kept.{Counted};
 ghost use Rattle.body.specs.Given.{Accepted, Stated};
 ghost use Rattle.visit.specs.Shares.{arrays-in, change, Shared};
 ghost use Rattle.visit.specs.Ways.{Come, Leaps};
-ghost use Rattle.visit.specs.Visits.{Ongoing, Returns, Meets, Jumps, Enters, Departs, start-jump};
+ghost use Rattle.visit.specs.Visits.{meeting, jumping, entering, departing, Ongoing, Returns, Meets, Jumps, Enters, Departs, start-jump};
 use crate::arrive::arrive;
 use crate::arrive::reconcile;
 use body::arms::Plan;
@@ -69,10 +69,9 @@ fn meet(
 ) -> Visit
     requires { ⌜ Accepted (now types) (now offs) (now fun) ⌝ }
     requires { ⌜ Shared (now fun) (now points) ⌝ }
-    requires { ⌜ Ongoing (now types) (now fun) (arrays-in (now memo) (now waits) (now forms) (now whats)) (now out) o ⌝ }
+    requires { ⌜ Ongoing (now types) (now fun) (arrays-in (now memo) (now waits) (now forms) (now whats)) (now out) o s (meeting (now types) (now fun) j) ⌝ }
     requires { ⌜ (j .item < nitems (now fun)) × (j .block < nblocks (now fun)) ⌝ }
     requires { ⌜ is-join-point (now fun) (j .block) ≡ true ⌝ }
-    requires { ⌜ Stated (now types) (local-types (now fun)) s ⌝ }
     ensures { λ r. ⌜ Meets (was types) (was fun) (change memo waits forms whats) out j s o r ⌝ }
 {
     let c = j.block;
@@ -160,9 +159,8 @@ fn goto(
 ) -> Visit
     requires { ⌜ Accepted (now types) (now offs) (now fun) ⌝ }
     requires { ⌜ Shared (now fun) (now points) ⌝ }
-    requires { ⌜ Ongoing (now types) (now fun) (arrays-in (now memo) (now waits) (now forms) (now whats)) (now out) o ⌝ }
+    requires { ⌜ Ongoing (now types) (now fun) (arrays-in (now memo) (now waits) (now forms) (now whats)) (now out) o s (jumping (now types) (now fun) j) ⌝ }
     requires { ⌜ Leaps (now types) (now fun) j ⌝ }
-    requires { ⌜ Stated (now types) (local-types (now fun)) s ⌝ }
     ensures { λ r. ⌜ Jumps (was types) (was fun) (change memo waits forms whats) out j s o r ⌝ }
 {
     let c = j.block;
@@ -219,9 +217,8 @@ pub fn basic_block(
 ) -> Visit
     requires { ⌜ Accepted (now types) (now offs) (now fun) ⌝ }
     requires { ⌜ Shared (now fun) (now points) ⌝ }
-    requires { ⌜ Ongoing (now types) (now fun) (arrays-in (now memo) (now waits) (now forms) (now whats)) (now out) o ⌝ }
+    requires { ⌜ Ongoing (now types) (now fun) (arrays-in (now memo) (now waits) (now forms) (now whats)) (now out) o s (entering (now types) (now fun) w) ⌝ }
     requires { ⌜ Come (now types) (now fun) w ⌝ }
-    requires { ⌜ Stated (now types) (local-types (now fun)) s ⌝ }
     ensures { λ r. ⌜ Enters (was types) (was fun) (change memo waits forms whats) out w s o r ⌝ }
 {
     let from = start_of(fun, w.block);
@@ -280,9 +277,8 @@ fn terminator<'a>(
 ) -> Visit
     requires { ⌜ Accepted (now types) (now offs) (now fun) ⌝ }
     requires { ⌜ Shared (now fun) (now points) ⌝ }
-    requires { ⌜ Ongoing (now types) (now fun) (arrays-in (now memo) (now waits) (now forms) (now whats)) (now out) o ⌝ }
+    requires { ⌜ Ongoing (now types) (now fun) (arrays-in (now memo) (now waits) (now forms) (now whats)) (now out) o (state-in (now fs) (now ws) n) (departing (now types) (now fun) w) ⌝ }
     requires { ⌜ Come (now types) (now fun) w ⌝ }
-    requires { ⌜ Stated (now types) (local-types (now fun)) (state-in (now fs) (now ws) n) ⌝ }
     ensures { λ r. ⌜ Departs (was types) (was fun) (change memo waits forms whats) out w (state-in (was fs) (was ws) n) o r ⌝ }
 {
     let b = w.block;
@@ -346,9 +342,8 @@ pub fn begin(
 ) -> Visit
     requires { ⌜ Accepted (now types) (now offs) (now fun) ⌝ }
     requires { ⌜ Shared (now fun) (now points) ⌝ }
-    requires { ⌜ Ongoing (now types) (now fun) (arrays-in (now memo) (now waits) (now forms) (now whats)) (now out) o ⌝ }
+    requires { ⌜ Ongoing (now types) (now fun) (arrays-in (now memo) (now waits) (now forms) (now whats)) (now out) o s (jumping (now types) (now fun) (start-jump (now fun))) ⌝ }
     requires { ⌜ (0 < nitems (now fun)) × (0 < nblocks (now fun)) ⌝ }
-    requires { ⌜ Stated (now types) (local-types (now fun)) s ⌝ }
     ensures { λ r. ⌜ Jumps (was types) (was fun) (change memo waits forms whats) out (start-jump (was fun)) s o r ⌝ }
 {
     let n = nblocks(fun);

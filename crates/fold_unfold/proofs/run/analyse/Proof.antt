@@ -5,10 +5,11 @@ use mathlib.Core.Path.{refl}
 use Prim.Native.Nat.{ℕ, _+_, _-_}
 use native.Mathlib.Omega.{arith}
 use lib.ListN.{take, drop, replicate, length-replicate}
+use Rattle.demand.specs.Whole.{Passed}
 use Rattle.visit.specs.Shares.{Remembers}
 use Rattle.fold_unfold.specs.Runs.{blank, again, fresh, Ranked}
 use Rattle.fold_unfold.proofs.Begun.{zeros-remembered, ranks-there}
-use Rattle.fold_unfold.proofs.Both.{first-stops, first-goes, second-begins, second-ends}
+use Rattle.fold_unfold.proofs.Both.{first-sound, first-stops, first-goes, second-begins, second-ends}
 use Rattle.fold_unfold.proofs.run.analyse.Statement.{statement}
 use Rattle.fold_unfold.proofs.run.analyse.Tie as tie
 
@@ -38,6 +39,10 @@ ranked : (c : tie.After-nblocks) → let f = start c .args .fun .now in
     let n = c .nblocks .result in
     Ranked f (take (4 + l + n + n - (4 + l + n)) (drop (4 + l + n) f))
 ranked c = ranks-there _ _ _ (start c .pre .0 .formed .laid) (c .before .nlocals .ensures) (c .nblocks .ensures)
+
+-- both records pass
+passed : (s : tie.Start) → Passed (s .args .types .now) (s .args .fun .now)
+passed s = record { types = s .pre .0 .ready .typed; function = s .pre .0 .function; places = s .pre .0 .places }
 
 -- zeros are the memory before the first
 zeros : (s : tie.Start) → Remembers (s .args .types .now) (s .args .fun .now) blank (fresh (replicate 512 0) (s .args .forms .now) (s .args .whats .now))
@@ -77,7 +82,7 @@ run-requires : tie.Need-run-requires
 run-requires c κs =
     let n = counts c in
     let s = start n in
-    (s .pre .0, (s .pre .1 .0, (ranked n, (omega (arith, length-replicate {A = ℕ} 512 0), record { memory = blank; is = zeros s; starts = refl }))))
+    (s .pre .0, (s .pre .1 .0, (ranked n, (omega (arith, length-replicate {A = ℕ} 512 0), record { memory = blank; is = zeros s; starts = refl; goes = first-sound (passed s) }))))
 
 enum-told : tie.Need-enum-told
 enum-told c = search needs
@@ -115,7 +120,7 @@ run-requires-2 c κs =
           ranked n,
           (
             omega (arith, r .run .kept .1 .1 .1 .1 .1 .0, length-replicate {A = ℕ} 512 0),
-            second-begins (first-goes (r .run .ensures blank refl (zeros s)) (e .enum-told .given .1)),
+            second-begins (first-goes (r .run .ensures blank refl (zeros s)) (e .enum-told .given .1)) (passed s),
           ),
         ),
       ),

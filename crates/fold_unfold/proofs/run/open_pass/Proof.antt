@@ -1,11 +1,12 @@
 -- The entry's uses of the folded locals, and the jump to the start block. Assumes nothing.
-use mathlib.Core.Path.{_≡_, refl, subst}
-use mathlib.Core.Bool.{true}
-use mathlib.Core.List.{List, []}
+use mathlib.Core.Path.{_≡_, refl, subst, _∙_}
+use mathlib.Core.Bool.{Bool, true}
+use mathlib.Core.List.{List}
 use Prim.Native.Nat.{ℕ, _-_}
 use native.Mathlib.Omega.{arith}
 use lib.ListN.{replicate}
 use borrow.Author.Needs.{needs}
+use Rattle.model.specs.Answer.{refused}
 use Rattle.model.specs.Tree.{leaves}
 use Rattle.model.specs.Function.{nblocks, start, local-types}
 use Rattle.base.specs.Function.{FunctionFacts, function-facts}
@@ -15,12 +16,12 @@ use Rattle.statements.specs.Kept.{begun}
 use Rattle.statements.specs.declared.Out.{Out}
 use Rattle.statements.proofs.Puts.{counted-begun}
 use Rattle.body.specs.Uses.{uses, After, after-in, Passes}
-use Rattle.visit.specs.Memory.{Memory, jumps}
+use Rattle.visit.specs.Memory.{jumps}
 use Rattle.visit.specs.Visits.{exit}
 use Rattle.fold_unfold.specs.Runs.{entered}
 use Rattle.visit.proofs.Heard.{spoken-own}
 use Rattle.visit.proofs.Entering.{visits-pen, visits-later}
-use Rattle.fold_unfold.proofs.Changed.{remembers-lines, remembers-entered}
+use Rattle.fold_unfold.proofs.Changed.{remembers-entered}
 use Rattle.fold_unfold.proofs.Opening.{Entered, folded-holds, entry-refused, entry-passed, opens-jumps}
 use Rattle.fold_unfold.proofs.run.open_pass.Statement.{statement}
 use Rattle.fold_unfold.proofs.run.open_pass.Tie as tie
@@ -127,17 +128,22 @@ begin-requires c κs =
     let H = s .pre .1 .1 in
     let N = entered-at (passed c) in
     let F = facts s in
-    let m : Memory = record { kept = H .memory .kept; waits = H .memory .waits; visited = H .memory .visited; lines = [] } in (
+    let a = s .args in
+    let m = entered (a .types .now) (a .fun .now) (a .recording) (N .entry .1) (H .memory) in
+    let S = N .spoken (H .memory) (H .lines) in (
       s .pre .0,
       (
         s .pre .1 .0,
         (
           record {
-            memory = entered (s .args .types .now) (s .args .fun .now) (s .args .recording) (N .entry .1) m;
-            is = remembers-entered (remembers-lines (H .is) []) (s .args .recording) (N .entry .1);
-            spoken = spoken-own (N .spoken m refl);
+            memory = m;
+            is = remembers-entered (H .is) (a .recording) (N .entry .1);
+            spoken = spoken-own S;
+            state = N .entry .0;
+            holds = N .holds;
+            goes = λ d. H .goes (opens-jumps N (H .memory) ∙ subst (λ (r : Bool). jumps (a .types .now) (a .fun .now) r (nblocks (a .fun .now)) (exit (a .fun .now) true 0 0 (N .entry .0)) m ≡ refused 0) (S .pen) d);
           },
-          ((omega (arith, F .starts-inside 0 (F .some-blocks)), F .some-blocks), record { state = N .entry .0; holds = N .holds }),
+          (omega (arith, F .starts-inside 0 (F .some-blocks)), F .some-blocks),
         ),
       ),
     )

@@ -1,15 +1,20 @@
 -- A pass: what the last visit answered, and that the pass is what is left behind it. Assumes nothing.
 mod Pass
-use mathlib.Core.Path.{refl, sym, _∙_}
+use mathlib.Core.Path.{_≡_, refl, sym, _∙_, subst}
+use mathlib.Core.Bool.{Bool}
 use native.Mathlib.Omega.{arith}
 use borrow.Author.Needs.{needs}
+use Rattle.model.specs.Answer.{refused}
+use Rattle.model.specs.Function.{nblocks}
 use Rattle.base.specs.Kinds.{types-known}
+use Rattle.visit.specs.Memory.{popped, enters}
 use Rattle.visit.proofs.Heard.{spoken-own}
 use Rattle.fold_unfold.proofs.Changed.{unwaiting, remembers-cleared}
+use Rattle.fold_unfold.proofs.Rounds.{opened-pass}
 use Rattle.fold_unfold.proofs.Going.{pops-none, going-over, going-refused, stands-rests, stands-turns, stands-less}
 use Rattle.fold_unfold.proofs.run.run.Statement.{statement}
 use Rattle.fold_unfold.proofs.run.run.Tie as tie
-use Rattle.fold_unfold.proofs.run.run.Proof.Pass.{Inv-loop, μ-loop, cleared, clears, start, top, over, takes, turn, begins, passed, going, alike, same-memo, Standing, standing, stands, chosen, turned, unwaited, visits}
+use Rattle.fold_unfold.proofs.run.run.Proof.Pass.{Inv-loop, μ-loop, cleared, clears, start, top, over, takes, turn, begins, sound, starts-lines, passed, going, alike, same-memo, Standing, standing, stands, chosen, turned, unwaited, visits}
 
 clear-visited-requires : tie.Need-clear-visited-requires Inv-loop μ-loop
 clear-visited-requires c κs = let s : tie.Start Inv-loop μ-loop = search in s .pre .1 .1 .1 .0
@@ -22,7 +27,18 @@ open-pass-requires c κs =
     let v = clears c in
     let s = cleared v in
     let (m, i) = begins s in
-    (s .pre .0, (s .pre .1 .0, record { memory = m; is = remembers-cleared (v .clear-visited .ensures) (i .1) }))
+    let a = s .args in (
+      s .pre .0,
+      (
+        s .pre .1 .0,
+        record {
+          memory = m;
+          is = remembers-cleared (v .clear-visited .ensures) (i .1);
+          lines = starts-lines (a .types .now) (a .fun .now) (a .recording) m (i .0);
+          goes = λ d. sound s (opened-pass (passed s) (a .recording) m (i .0) ∙ rw d refl);
+        },
+      ),
+    )
 
 loop-holds : tie.Need-loop-holds Inv-loop μ-loop
 loop-holds c = (refl, λ x b a G. G)
@@ -107,6 +123,11 @@ turn-requires c κs =
           spoken = spoken-own (A .spoken);
           state = N .state;
           there = N .stored;
+          goes = λ d.
+              let a = s .args in
+              let b = p .p .given .0 .0 in
+              let e = subst (λ (r : Bool). enters (a .types .now) (a .fun .now) r (nblocks (a .fun .now)) b (N .state) (popped b (A .memory)) ≡ refused 0) (A .spoken .pen) d in
+              sound s (A .goes ∙ N .goes ∙ rw e refl);
         },
       ),
     )

@@ -1,5 +1,5 @@
 -- The share of the popped block is loaded, and the block entered. Assumes nothing.
-use mathlib.Core.Path.{_≡_, refl, ap, _∙_}
+use mathlib.Core.Path.{_≡_, refl, ap, _∙_, subst}
 use mathlib.Core.List.{List}
 use mathlib.Core.Option.{some}
 use Prim.Native.Nat.{ℕ, suc, _+_, _*_, _-_, _≤_, _<_}
@@ -7,10 +7,11 @@ use native.Mathlib.Omega.{arith}
 use lib.ListN.{length, take, drop}
 use borrow.Author.Needs.{needs}
 use Rattle.model.specs.Words.{word}
+use Rattle.model.specs.Answer.{refused}
 use Rattle.model.specs.Tree.{Forest}
 use Rattle.model.specs.Function.{nblocks, local-types}
 use Rattle.blocks.proofs.Spots.{formed-accepted}
-use Rattle.visit.specs.Memory.{Memory}
+use Rattle.visit.specs.Memory.{Memory, enters}
 use Rattle.visit.specs.Shares.{kept-in, arrays-in, Arrays, Remembers}
 use Rattle.visit.proofs.Memo.{parts-long}
 use Rattle.fold_unfold.specs.Runs.{visiting}
@@ -158,7 +159,8 @@ basic-block-requires c κs =
     let n : tie.After-nblocks = search in
     let k = knows l in
     let s = start k in
-    let H = s .pre .1 .1 in (
+    let H = s .pre .1 .1 in
+    let n₁ : suc (n .nblocks .result - 1) ≡ nblocks (s .args .fun .now) = omega (arith, n .nblocks .ensures, s .pre .0 .formed .laid .some-blocks) in (
       s .pre .0,
       (
         s .pre .1 .0,
@@ -167,11 +169,11 @@ basic-block-requires c κs =
             memory = visiting (s .args .b) (H .memory);
             is = remembers-visited (sets k .set-visited .ensures) (room s .0) (H .is);
             spoken = H .spoken;
+            state = H .state;
+            holds = reads k .loads _ (l .load-state .ensures);
+            goes = λ d. H .goes (subst (λ (i : ℕ). enters (s .args .types .now) (s .args .fun .now) (s .args .o .recording) i (s .args .b) (H .state) (visiting (s .args .b) (H .memory)) ≡ refused 0) n₁ d);
           },
-          (
-            stored-come (s .pre .1 .0) (H .is) (s .args .b) (H .below) (H .there) (formed-accepted (s .pre .0 .formed)) (n .nblocks .ensures),
-            record { state = H .state; holds = reads k .loads _ (l .load-state .ensures) },
-          ),
+          stored-come (s .pre .1 .0) (H .is) (s .args .b) (H .below) (H .there) (formed-accepted (s .pre .0 .formed)) (n .nblocks .ensures),
         ),
       ),
     )

@@ -1,9 +1,10 @@
 -- `visit::arrive::reconcile` meets its contract: what is loaded and collected, by the laws of `Stored` and `Told`. Assumes nothing.
 use borrow.Author.Needs.{needs}
-use mathlib.Core.Path.{_≡_, refl, sym, subst, _∙_}
+use mathlib.Core.Path.{_≡_, refl, sym, subst}
 use mathlib.Core.List.{List}
-use mathlib.Core.Option.{Option}
+use mathlib.Core.Option.{some}
 use Prim.Native.Nat.{ℕ}
+use native.Mathlib.Omega.{arith}
 use Rattle.model.specs.Words.{word}
 use Rattle.model.specs.Tree.{Forest}
 use Rattle.model.specs.Collect.{collects}
@@ -17,36 +18,38 @@ use Rattle.statements.specs.declared.Out.{Out}
 use Rattle.statements.proofs.Puts.{alike-at, counted-alike}
 use Rattle.collect.specs.Answers.{Collects}
 use Rattle.body.specs.Uses.{point}
-use Rattle.visit.specs.Shares.{kept-in, Saved}
-use Rattle.visit.specs.Visits.{owed}
-use Rattle.visit.proofs.Stored.{accepted-locals, Loaded, saved-loaded, saved-bare, saved-fits}
-use Rattle.visit.proofs.Told.{reconciles-none, reconciles-refused, reconciles-over}
+use Rattle.visit.specs.Shares.{kept-in, Full}
+use Rattle.visit.proofs.Stored.{accepted-locals, loaded-holds, saved-fits}
+use Rattle.visit.proofs.Told.{reconciles-refused, reconciles-over}
 use Rattle.visit.proofs.arrive.reconcile.Statement.{statement}
 use Rattle.visit.proofs.arrive.reconcile.Tie as tie
 
 -- what the block's share has
-abbrev Share : tie.Start → Option Forest → Type 0
-Share c o =
+abbrev Share : tie.Start → Forest → Type 0
+Share c S =
     let a = c .args in
-    Saved (a .types .now) (local-types (a .fun .now)) (a .forms .now) (a .whats .now) (word (kept-in (a .memo .now)) (a .j .block)) o
+    Full (a .types .now) (local-types (a .fun .now)) (a .forms .now) (a .whats .now) (word (kept-in (a .memo .now)) (a .j .block)) S
 
 stored-requires : tie.Need-stored-requires
-stored-requires c κs = let v = c .before .before .before .before .before .before .before .before .pre .1 .1 .0 in (v .block, v .long)
-
-returns : tie.Need-returns
-returns c = (
-  λ o E v h. rw (saved-bare _ _ _ _ _ o v (sym (c .before .stored .ensures) ∙ c .if1 .taken)) (reconciles-none (c .before .before .before .before .before .before .before .before .before .before .args .types .now) E),
-  refl,
-)
+stored-requires c κs =
+    let z : tie.Start = search in
+    (z .pre .1 .1 .0 .block, z .pre .1 .1 .0 .long)
 
 wide-requires : tie.Need-wide-requires
 wide-requires c κs = search needs
 
 sub-load-state : tie.Need-sub-load-state
-sub-load-state c = search needs
+sub-load-state c =
+    let k : tie.After-stored = search in
+    let z : tie.Start = search in
+    omega (arith, c .wide .ensures, k .stored .ensures, z .pre .1 .1 .0 .is .count)
 
 load-state-requires : tie.Need-load-state-requires
-load-state-requires c κs = let v = c .before .before .before .before .before .before .before .before .before .before .before .pre .1 .1 .0 in rw (c .wide .ensures, c .before .before .stored .ensures) (saved-fits _ _ _ _ _ (v .stored) (v .is))
+load-state-requires c κs =
+    let k : tie.After-stored = search in
+    let z : tie.Start = search in
+    let f = z .pre .1 .1 .0 in
+    rw (c .wide .ensures, k .stored .ensures) (saved-fits _ _ _ _ _ (some (f .stored)) (f .is))
 
 -- the beginning, from where the state is loaded
 abbrev start : tie.After-load-state → tie.Start
@@ -57,12 +60,12 @@ abbrev load : tie.After-collect-fold-unfolds → tie.After-load-state
 load c = search
 
 -- the state loaded is the one stored
-loaded : (c : tie.After-load-state) (o : Option Forest) → Share (start c) o
-    → let a = (start c) .args in
-    Loaded (a .types .now) (local-types (a .fun .now)) (a .forms .now) (a .whats .now) (word (kept-in (a .memo .now)) (a .j .block)) o (c .load-state .result)
-loaded c o v =
-    let e = c .before .before .before .stored .ensures in
-    saved-loaded _ _ _ _ _ o v (λ d. c .before .before .if1 .left (e ∙ d)) (c .before .wide .ensures ∙ e) (c .load-state .ensures)
+loaded : (c : tie.After-load-state) (S : Forest) → Share (start c) S
+    → Holds ((start c) .args .types .now) (local-types ((start c) .args .fun .now)) (value (c .load-state .result)) S
+loaded c S f =
+    let k : tie.After-stored = search in
+    let w : tie.After-wide = search in
+    loaded-holds f (rw (w .wide .ensures, k .stored .ensures) at (c .load-state .ensures))
 
 local-types-requires : tie.Need-local-types-requires
 local-types-requires c κs = search needs
@@ -78,24 +81,21 @@ collect-fold-unfolds-requires c κs =
     let l : tie.After-load-state = search in
     let p = (start l) .pre in
     let v = p .1 .1 .0 in
-    let f = loaded l (v .stored) (v .is) in
     rw (c .before .before .before .local-types .ensures, c .at-point .ensures)
-    (p .0 .ready, (accepted-locals (p .0), ((p .1 .0 .state, p .1 .0 .holds), ((f .state, f .holds), counted-alike (alike-at _ _) (p .1 .1 .1 .1 .1)))))
+    (p .0 .ready, (accepted-locals (p .0), ((p .1 .0 .state, p .1 .0 .holds), ((v .stored, loaded l (v .stored) (v .is)), counted-alike (alike-at _ _) (p .1 .1 .1 .1 .1)))))
 
--- what is collected is what is owed
-told : (c : tie.After-collect-fold-unfolds) (o : Option Forest) (E : Forest) → Share (start (load c)) o
+-- what is collected
+told : (c : tie.After-collect-fold-unfolds) (S E : Forest) → Share (start (load c)) S
     → let a = (start (load c)) .args in
     Holds (a .types .now) (local-types (a .fun .now)) (value (a .s)) E
-    → Collects (a .out .now) (at-point (a .o) (c .before .before .point-of .result)) (c .collect-fold-unfolds .last .1 .1 .1 .1 .1 .0) (owed (a .types .now) o E) (c .collect-fold-unfolds .result)
-unfolding owed
-told c o E v h =
+    → Collects (a .out .now) (at-point (a .o) (c .before .before .point-of .result)) (c .collect-fold-unfolds .last .1 .1 .1 .1 .1 .0) (collects (a .types .now) E S) (c .collect-fold-unfolds .result)
+told c S E v h =
     let a = (start (load c)) .args in
-    let l = loaded (load c) o v in
     let t = sym (c .before .before .before .before .local-types .ensures) in
-    let P = c .collect-fold-unfolds .ensures E (l .state)
+    let P = c .collect-fold-unfolds .ensures E S
     (subst (λ (ts : List ℕ). Holds (a .types .now) ts (value (a .s)) E) t h)
-    (subst (λ (ts : List ℕ). Holds (a .types .now) ts (value ((load c) .load-state .result)) (l .state)) t (l .holds)) in
-    rw (l .is) (subst (λ (u : Out). Collects (a .out .now) u (c .collect-fold-unfolds .last .1 .1 .1 .1 .1 .0) (collects (a .types .now) E (l .state)) (c .collect-fold-unfolds .result)) (c .before .at-point .ensures) P)
+    (subst (λ (ts : List ℕ). Holds (a .types .now) ts (value ((load c) .load-state .result)) S) t (loaded (load c) S v)) in
+    subst (λ (u : Out). Collects (a .out .now) u (c .collect-fold-unfolds .last .1 .1 .1 .1 .1 .0) (collects (a .types .now) E S) (c .collect-fold-unfolds .result)) (c .before .at-point .ensures) P
 
 enum-known-a : tie.Need-enum-known-a
 enum-known-a c = search needs
@@ -118,11 +118,11 @@ here : (c : tie.After-collect-fold-unfolds)
     (c .before .before .point-of .result .op, c .before .before .point-of .result .arg) ≡ point-entry (entry-point (a .fun .now)) (point (a .fun .now) (a .j .entry) (a .j .item))
 here c = let s = start (load c) in c .before .before .point-of .ensures (s .args .fun .now) (s .pre .0 .formed .laid) (s .pre .1 .1 .1 .1 .0)
 
-returns-2 : tie.Need-returns-2
-returns-2 c =
+returns : tie.Need-returns
+returns c =
     let w : tie.After-visited = search in
     let k : tie.After-collect-fold-unfolds = search in
-    (λ o E v h. reconciles-over (here k) (k .collect-fold-unfolds .kept .1 .1 .1 .1 .1 .0) (told k o E v h) (c .before .before .before .a2 .given .1) (w .visited .ensures) (rw (c .if2 .taken) refl), refl)
+    (λ S E v h. reconciles-over (here k) (k .collect-fold-unfolds .kept .1 .1 .1 .1 .1 .0) (told k S E v h) (c .before .before .before .a2 .given .1) (w .visited .ensures) (rw (c .if1 .taken) refl), refl)
 
 insert-requires : tie.Need-insert-requires
 insert-requires c κs =
@@ -132,10 +132,10 @@ insert-requires c κs =
 same-length-2 : tie.Need-same-length-2
 same-length-2 c = search needs
 
-returns-3 : tie.Need-returns-3
-returns-3 c =
+returns-2 : tie.Need-returns-2
+returns-2 c =
     let k : tie.After-collect-fold-unfolds = search in
-    (λ o E v h. reconciles-refused (here k) (k .collect-fold-unfolds .kept .1 .1 .1 .1 .1 .0) (told k o E v h) (c .before .a .given .1), refl)
+    (λ S E v h. reconciles-refused (here k) (k .collect-fold-unfolds .kept .1 .1 .1 .1 .1 .0) (told k S E v h) (c .before .a .given .1), refl)
 
 same-length-3 : tie.Need-same-length-3
 same-length-3 c = search needs
@@ -143,11 +143,11 @@ same-length-3 c = search needs
 same-length-4 : tie.Need-same-length-4
 same-length-4 c = search needs
 
-returns-4 : tie.Need-returns-4
-returns-4 c =
+returns-3 : tie.Need-returns-3
+returns-3 c =
     let w : tie.After-visited = search in
     let k : tie.After-collect-fold-unfolds = search in (
-      λ o E v h. reconciles-over (here k) (k .collect-fold-unfolds .kept .1 .1 .1 .1 .1 .0) (told k o E v h) (c .before .before .before .before .before .before .before .a2 .given .1) (w .visited .ensures) (rw (c .before .before .before .before .if2 .left) (c .before .before .insert .ensures)),
+      λ S E v h. reconciles-over (here k) (k .collect-fold-unfolds .kept .1 .1 .1 .1 .1 .0) (told k S E v h) (c .before .before .before .before .before .before .before .a2 .given .1) (w .visited .ensures) (rw (c .before .before .before .before .if1 .left) (c .before .before .insert .ensures)),
       c .before .before .insert .kept .0,
     )
 
@@ -156,7 +156,6 @@ reconcile-spec =
     tie.close
     (tie.spec
     stored-requires
-    returns
     wide-requires
     sub-load-state
     load-state-requires
@@ -168,10 +167,10 @@ reconcile-spec =
     enum-known-a-2
     visited-requires
     same-length
-    returns-2
+    returns
     insert-requires
     same-length-2
-    returns-3
+    returns-2
     same-length-3
     same-length-4
-    returns-4)
+    returns-3)

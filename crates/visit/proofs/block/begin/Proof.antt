@@ -1,6 +1,6 @@
 -- `visit::block::begin` meets its contract: the start block is a join point, or is entered as the first of a way. Assumes nothing.
 use borrow.Author.Needs.{needs}
-use mathlib.Core.Path.{_≡_, sym, subst, _∙_}
+use mathlib.Core.Path.{_≡_, sym, subst, ap, _∙_}
 use mathlib.Core.Bool.{true, false}
 use Prim.Native.Nat.{ℕ, suc, _-_}
 use native.Mathlib.Omega.{arith}
@@ -8,8 +8,10 @@ use Rattle.model.specs.Function.{nblocks}
 use Rattle.model.specs.Block.{is-join-point}
 use Rattle.blocks.proofs.Spots.{formed-accepted}
 use Rattle.solver.specs.Fuel.{root-start}
+use Rattle.visit.specs.Memory as Memory
 use Rattle.visit.specs.Ways.{Come}
 use Rattle.visit.specs.Visits.{exit}
+use Rattle.visit.proofs.Heard.{ongoing-as}
 use Rattle.visit.proofs.Shelves.{share-joins, none-joins}
 use Rattle.visit.proofs.Ways.{root-come}
 use Rattle.visit.proofs.Steps.{jumps-meet, jumps-enter}
@@ -34,11 +36,11 @@ entered r = search
 
 -- the start block is a join point
 joins : (h : tie.Then1) → is-join-point (meets h .args .fun .now) 0 ≡ true
-joins h = let p = meets h .pre in share-joins _ _ (λ z. h .if1 .taken (p .1 .0 .numbers 0 (p .1 .1 .1 .0 .1) ∙ z))
+joins h = let p = meets h .pre in share-joins _ _ (λ z. h .if1 .taken (p .1 .0 .numbers 0 (p .1 .1 .1 .1) ∙ z))
 
 -- or none
 apart : (h : tie.Else1) → is-join-point (enters h .args .fun .now) 0 ≡ false
-apart h = let p = enters h .pre in none-joins _ _ (sym (p .1 .0 .numbers 0 (p .1 .1 .1 .0 .1)) ∙ h .if1 .left)
+apart h = let p = enters h .pre in none-joins _ _ (sym (p .1 .0 .numbers 0 (p .1 .1 .1 .1)) ∙ h .if1 .left)
 
 -- and a way begins there
 come : (h : tie.Else1) → Come (enters h .args .types .now) (enters h .args .fun .now) (record { block = 0; left = counted h .nblocks .result - 1 })
@@ -55,8 +57,10 @@ shared-slice-read-if1 c = search needs
 meet-requires : tie.Need-meet-requires
 meet-requires c κs =
     let h : tie.Then1 = search in
+    let a = meets h .args in
     let p = meets h .pre in
-    (p .0, (p .1 .0, (p .1 .1 .0, (p .1 .1 .1 .0, (joins h, p .1 .1 .1 .1)))))
+    let O = p .1 .1 .0 in
+    (p .0, (p .1 .0, (ongoing-as O (jumps-meet (a .types .now) (a .fun .now) (a .o .recording) (nblocks (a .fun .now)) (exit (a .fun .now) true 0 0 (O .state)) (O .memory) (joins h)), (p .1 .1 .1, joins h))))
 
 same-length : tie.Need-same-length
 same-length c = search needs
@@ -87,8 +91,20 @@ sub-t28 c = search needs
 basic-block-requires : tie.Need-basic-block-requires
 basic-block-requires c κs =
     let h : tie.Else1 = search in
+    let a = enters h .args in
     let p = enters h .pre in
-    (p .0, (p .1 .0, (p .1 .1 .0, (come h, p .1 .1 .1 .1))))
+    let O = p .1 .1 .0 in
+    let z : nblocks (a .fun .now) ≡ suc (counted h .nblocks .result - 1) = omega (arith, counted h .nblocks .ensures, p .1 .1 .1 .1) in (
+      p .0,
+      (
+        p .1 .0,
+        (
+          ongoing-as O (jumps-enter (a .types .now) (a .fun .now) (a .o .recording) (nblocks (a .fun .now)) (exit (a .fun .now) true 0 0 (O .state)) (O .memory) (apart h)
+              ∙ ap (λ (n : ℕ). Memory.enters (a .types .now) (a .fun .now) (a .o .recording) n 0 (O .state) (O .memory)) z),
+          come h,
+        ),
+      ),
+    )
 
 same-length-6 : tie.Need-same-length-6
 same-length-6 c = search needs
@@ -110,7 +126,7 @@ returns-2 c = λ m E R N H.
     let r : tie.After-basic-block = search in
     let h = entered r in
     let a = enters h .args in
-    let z : suc (counted h .nblocks .result - 1) ≡ nblocks (a .fun .now) = omega (arith, counted h .nblocks .ensures, enters h .pre .1 .1 .1 .0 .1) in
+    let z : suc (counted h .nblocks .result - 1) ≡ nblocks (a .fun .now) = omega (arith, counted h .nblocks .ensures, enters h .pre .1 .1 .1 .1) in
     rw (jumps-enter (a .types .now) (a .fun .now) (a .o .recording) (nblocks (a .fun .now)) (exit (a .fun .now) true 0 0 E) m (apart h))
     (rw z at (r .basic-block .ensures m E R N H))
 

@@ -1,16 +1,25 @@
 -- `visit::block::meet` meets its contract: the share of the join point lies in the store, and what an arrival leaves there is model's.
 -- Assumes nothing.
 use borrow.Author.Needs.{needs}
-use mathlib.Core.Path.{_≡_, refl, _∙_}
+use mathlib.Core.Path.{_≡_, refl, sym, subst, _∙_}
+use mathlib.Core.Bool.{Bool, true}
 use mathlib.Core.List.{List}
 use Prim.Native.Nat.{ℕ, _+_, _≤_, _<_}
 use native.Mathlib.Omega.{arith}
 use lib.ListN.{length}
+use Rattle.model.specs.Words.{word}
+use Rattle.model.specs.Answer.{refused}
+use Rattle.model.specs.Function.{local-types}
+use Rattle.base.specs.Tests.{split-option}
 use Rattle.blocks.specs.Points.{share-number}
-use Rattle.visit.specs.Visits.{Shelved}
+use Rattle.visit.specs.Memory.{arrives}
+use Rattle.visit.specs.Shares.{kept-in, Saved}
+use Rattle.visit.specs.Visits.{Shelved, Filled, exit}
 use Rattle.visit.proofs.Memo.{parts-long, kept-length}
+use Rattle.visit.proofs.Heard.{stated}
 use Rattle.visit.proofs.Shelves.{points-few, share-most, base, lent-of}
-use Rattle.visit.proofs.Stores.{share-inside, lent-saved}
+use Rattle.visit.proofs.Stored.{saved-full}
+use Rattle.visit.proofs.Stores.{share-inside, lent-saved, second-none}
 use Rattle.visit.proofs.Arrivals.{first-visits, second-visits}
 use Rattle.visit.proofs.block.meet.Statement.{statement}
 use Rattle.visit.proofs.block.meet.Tie as tie
@@ -39,7 +48,7 @@ room w =
     let s = start w in
     let p = s .pre in
     let R = p .1 .1 .0 .is in
-    let j = p .1 .1 .1 .1 .0 in
+    let j = p .1 .1 .1 .1 in
     let q = number w in
     let l = p .1 .1 .1 .0 .1 in
     let few = p .0 .formed .laid .most-blocks in
@@ -58,6 +67,21 @@ room w =
         long = parts-long (s .args .memo .now) (R .long .kept) (R .long .visited);
       };
     }
+
+-- what arrives where the pass records arrives where something is stored
+filled : (w : tie.After-wide) → let a = (start w) .args in
+    a .o .recording ≡ true → Filled (a .types .now) (a .fun .now) (a .memo .now) (lent-of (a .forms .now) (w .wide .result)) (lent-of (a .whats .now) (w .wide .result)) (a .j .block)
+filled w t =
+    let s = start w in
+    let a = s .args in
+    let O = s .pre .1 .1 .0 in
+    let x = exit (a .fun .now) (a .j .entry) (a .j .item) (a .j .block) (O .state) in
+    let R = (room w) .shelved in
+    let p = s .pre in
+    let v = lent-saved (O .is) (p .1 .1 .1 .0 .1) (p .1 .1 .1 .1) (p .0 .formed .laid .most-blocks) (number w) in
+    split-option (O .memory .kept (a .j .block))
+    (λ e. absurd (O .goes (subst (λ (b : Bool). arrives (a .types .now) (a .fun .now) b x (O .memory) ≡ refused 0) (sym t) (second-none (a .types .now) (a .fun .now) x (O .memory) e))))
+    (λ S e. record { stored = S; is = subst (Saved (a .types .now) (local-types (a .fun .now)) (lent-of (a .forms .now) (w .wide .result)) (lent-of (a .whats .now) (w .wide .result)) (word (kept-in (a .memo .now)) (a .j .block))) e v; block = R .block; long = R .long })
 
 mul-wide : tie.Need-mul-wide
 mul-wide c = search needs
@@ -103,10 +127,11 @@ part-reconcile-end-2 c = let w : tie.After-wide = search in (room w) .whats-room
 
 reconcile-requires : tie.Need-reconcile-requires
 reconcile-requires c κs =
+    let t : tie.Then1 = search in
     let w : tie.After-wide = search in
     let p = (start w) .pre in
     let R = room w in
-    (p .0, (p .1 .1 .1 .1 .1, (R .shelved, (R .waiting, (p .1 .1 .1 .0 .0, p .1 .1 .0 .spoken .counted)))))
+    (p .0, (stated (p .1 .1 .0), (filled w (t .if1 .taken), (R .waiting, (p .1 .1 .1 .0 .0, p .1 .1 .0 .spoken .counted)))))
 
 same-length : tie.Need-same-length
 same-length c = search needs
@@ -125,15 +150,16 @@ same-length-5 c = search needs
 
 returns : tie.Need-returns
 returns c = λ m E M S H.
-    let k : tie.After-reconcile = search in
+    let u : tie.After-reconcile = search in
     let t : tie.Then1 = search in
     let w : tie.After-wide = search in
     let p = (start w) .pre in
     let j = (start w) .args .j in
     let l = p .1 .1 .1 .0 .1 in
     let few = p .0 .formed .laid .most-blocks in
-    let f = k .reconcile .ensures in
-    second-visits M l (p .1 .1 .1 .1 .0) few (j .item) (j .entry) E (t .if1 .taken) S (f .0 (m .kept (j .block)) E (lent-saved M l (p .1 .1 .1 .1 .0) few (number w)) H) (f .1)
+    let f = u .reconcile .ensures in
+    let (T, k, F) = saved-full _ _ _ _ _ (m .kept (j .block)) (lent-saved M l (p .1 .1 .1 .1) few (number w)) (λ z. omega (arith, (filled w (t .if1 .taken)) .is .count, z)) in
+    second-visits M l (p .1 .1 .1 .1) few (j .item) (j .entry) E T k (t .if1 .taken) S (f .0 T E F H) (f .1)
 
 mul-arrive : tie.Need-mul-arrive
 mul-arrive c = let w : tie.After-wide = search in record { fits = omega (arith, room w) }
@@ -164,7 +190,7 @@ arrive-requires c κs =
     let w : tie.After-wide = search in
     let p = (start w) .pre in
     let R = room w in
-    (p .0, (p .1 .1 .1 .1 .1, (R .shelved, R .waiting)))
+    (p .0, (stated (p .1 .1 .0), (R .shelved, R .waiting)))
 
 same-length-6 : tie.Need-same-length-6
 same-length-6 c = search needs
@@ -189,7 +215,7 @@ returns-2 c = λ m E M S H.
     let few = p .0 .formed .laid .most-blocks in
     let f = k .arrive .ensures in
     let q = number w in
-    rw (q, f .1 .visited) (first-visits M l (p .1 .1 .1 .1 .0) few (j .item) (j .entry) E (t .if1 .left) S (H .trees .fits) (f .0 (m .kept (j .block)) E (lent-saved M l (p .1 .1 .1 .1 .0) few q) H)
+    rw (q, f .1 .visited) (first-visits M l (p .1 .1 .1 .1) few (j .item) (j .entry) E (t .if1 .left) S (H .trees .fits) (f .0 (m .kept (j .block)) E (lent-saved M l (p .1 .1 .1 .1) few q) H)
     (kept-length ((start w) .args .memo .now) (k .arrive .last .1 .1 .1 .0) (f .1 .memo)) (f .1 .waits) (rw q at (f .1 .forms)) (rw q at (f .1 .whats)) (λ e. absurd (c .if2 .taken e)) (λ e. refl))
 
 same-length-10 : tie.Need-same-length-10
@@ -215,7 +241,7 @@ returns-3 c = λ m E M S H.
     let few = p .0 .formed .laid .most-blocks in
     let f = k .arrive .ensures in
     let q = number w in
-    rw (q, f .1 .visited) (first-visits M l (p .1 .1 .1 .1 .0) few (j .item) (j .entry) E (t .if1 .left) S (H .trees .fits) (f .0 (m .kept (j .block)) E (lent-saved M l (p .1 .1 .1 .1 .0) few q) H)
+    rw (q, f .1 .visited) (first-visits M l (p .1 .1 .1 .1) few (j .item) (j .entry) E (t .if1 .left) S (H .trees .fits) (f .0 (m .kept (j .block)) E (lent-saved M l (p .1 .1 .1 .1) few q) H)
     (kept-length ((start w) .args .memo .now) (k .arrive .last .1 .1 .1 .0) (f .1 .memo)) (f .1 .waits) (rw q at (f .1 .forms)) (rw q at (f .1 .whats)) (λ e. refl) (λ e. absurd (e (c .if2 .left))))
 
 pub meet-spec : {M : Type 1} → statement M

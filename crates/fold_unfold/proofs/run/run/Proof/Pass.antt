@@ -1,13 +1,14 @@
 -- A pass between two turns, at the points of the code: the opening, the loop's head, the block that is popped and its turn. Assumes
 -- nothing.
 use mathlib.Core.Path.{_≡_, refl, ap, _∙_}
+use mathlib.Core.Logic.{_≢_}
 use mathlib.Core.Bool.{Bool, true, false}
 use mathlib.Core.List.{List, []}
 use mathlib.Core.Option.{some}
 use Prim.Native.Nat.{ℕ, _<_}
 use native.Mathlib.Omega.{arith}
 use lib.ListN.{length, set}
-use Rattle.model.specs.Answer.{Answer}
+use Rattle.model.specs.Answer.{Answer, refused}
 use Rattle.model.specs.Rounds.{lowest}
 use Rattle.model.specs.Function.{nblocks, rank}
 use Rattle.visit.specs.Memory.{Memory, popped, enters}
@@ -91,12 +92,17 @@ Begun s m = Starts (s .args .types .now) (s .args .fun .now) (s .args .recording
 pub begins : (s : tie.Start Inv-loop μ-loop) → (m : Memory) × Begun s m
 begins s = let b = s .pre .1 .1 .1 .1 in (b .memory, (b .starts, b .is))
 
+-- model's answer to it is not 0
+pub sound : (s : tie.Start Inv-loop μ-loop) → pass (s .args .types .now) (s .args .fun .now) (s .args .recording) (begins s .0) ≢ refused 0
+unfolding begins
+sound s = s .pre .1 .1 .1 .1 .goes
+
 -- both records pass
 pub passed : (s : tie.Start Inv-loop μ-loop) → Passed (s .args .types .now) (s .args .fun .now)
 passed s = record { types = s .pre .0 .ready .typed; function = s .pre .0 .function; places = s .pre .0 .places }
 
 -- a pass begins with no lines
-starts-lines : (Γ fn : List ℕ) (recording : Bool) (m : Memory) → Starts Γ fn recording m → m .lines ≡ []
+pub starts-lines : (Γ fn : List ℕ) (recording : Bool) (m : Memory) → Starts Γ fn recording m → m .lines ≡ []
 starts-lines Γ fn false m z = ap (λ (x : Memory). x .lines) z
 starts-lines Γ fn true m z = ap (λ (x : Memory). x .lines) (z .1)
 

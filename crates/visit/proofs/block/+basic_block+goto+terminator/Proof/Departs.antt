@@ -18,10 +18,10 @@ use Rattle.visit.specs.Shares.{arrays-in, Remembers}
 use Rattle.visit.specs.Visits.{Spoken}
 use Rattle.visit.proofs.Memo.{alike-in}
 use Rattle.visit.proofs.Ways.{come-leaps}
-use Rattle.visit.proofs.Heard.{spoken-own}
+use Rattle.visit.proofs.Heard.{spoken-own, stated}
 use Rattle.visit.proofs.Steps.{target-behind}
 use Rattle.visit.proofs.Entering.{alike-same, alike-then, visits-refused}
-use Rattle.visit.proofs.Leaving.{Left, Aimed, Onward, left-start, left-skip, left-next, left-over, left-refused, left-end}
+use Rattle.visit.proofs.Leaving.{Left, Aimed, Onward, left-start, left-skip, left-next, left-over, left-refused, left-end, aimed-refused}
 use Rattle.visit.proofs.block.terminator.Reads as terminator
 use Rattle.visit.proofs.block.+basic_block+goto+terminator.Lts-terminator as terminator-lts
 use Rattle.visit.proofs.block.+basic_block+goto+terminator.Proof.Claims.{terminator-at, terminator-claims}
@@ -102,7 +102,7 @@ module _ (t : ℕ) where
   item-holds : (i : Inside) → let a = begins (i .before) .args in In-block (a .fun .now) (a .w .block) (i .before .loop .i)
   item-holds i =
       let l = i .before in
-      record { block = begins l .pre .1 .1 .1 .1 .0 .known; low = l .loop .inv .0 .low; high = omega (arith, i .loop-test .taken, ended l .stop-of .ensures) }
+      record { block = begins l .pre .1 .1 .1 .1 .known; low = l .loop .inv .0 .low; high = omega (arith, i .loop-test .taken, ended l .stop-of .ensures) }
 
   -- and of the record
   item-inside : (i : Inside) → i .before .loop .i < nitems (begins (i .before) .args .fun .now)
@@ -134,7 +134,7 @@ module _ (t : ℕ) where
   plan-of-requires c κs =
       let z : Begun = search in
       let p = z .pre .1 in
-      (p .0, (p .1 .1 .1 .0 .known, p .1 .1 .1 .1))
+      (p .0, (p .1 .1 .1 .known, stated (p .1 .1 .0)))
 
   pub enum-known-p : terminator-lts.Need-enum-known-p (terminator-claims t) (terminator-at t) terminator.Post Inv-loop μ-loop
   enum-known-p c = search needs
@@ -148,13 +148,13 @@ module _ (t : ℕ) where
   stop-of-requires c κs =
       let q : Planned-at = search in
       let p = planned q .pre .1 in
-      (p .0 .formed .laid, p .1 .1 .1 .0 .known)
+      (p .0 .formed .laid, p .1 .1 .1 .known)
 
   pub start-of-requires : terminator-lts.Need-start-of-requires (terminator-claims t) (terminator-at t) terminator.Post Inv-loop μ-loop
   start-of-requires c κs =
       let q : Planned-at = search in
       let p = planned q .pre .1 in
-      (p .0 .formed .laid, p .1 .1 .1 .0 .known)
+      (p .0 .formed .laid, p .1 .1 .1 .known)
 
   pub loop-holds : terminator-lts.Need-loop-holds (terminator-claims t) (terminator-at t) terminator.Post Inv-loop μ-loop
   loop-holds c =
@@ -162,7 +162,7 @@ module _ (t : ℕ) where
       let q = plans s in
       let p = planned q .pre .1 in
       let z = c .start-of .ensures in
-      let l = p .1 .1 .1 .0 .known in (
+      let l = p .1 .1 .1 .known in (
         record {
           low = omega (arith, z);
           high = omega (arith, z, (formed-accepted (p .0 .formed)) .starts _ l);
@@ -181,19 +181,19 @@ module _ (t : ℕ) where
       let i : Inside = search in
       let z = begins (i .before) in
       let p = z .pre .1 in
-      let h = p .1 .1 .1 .1 in
-      let (L, N) = next c (p .1 .1 .0 .memory) (h .state) (p .1 .1 .0 .is) (p .1 .1 .0 .spoken) (h .holds) in
+      let h = p .1 .1 .0 in
+      let (L, N) = next c (h .memory) (h .state) (h .is) (h .spoken) (h .holds) in
       let P = plan (i .before) .plan-of .ensures _ (h .holds) in (
         p .0,
         (
           item-inside i,
           (
-            h,
+            stated h,
             record {
               state = h .state;
               holds = h .holds;
               sound = P .sound;
-              behind = target-behind (formed-accepted (p .0 .formed)) (p .1 .1 .1 .0 .known) (item-holds i) (is-target c) P;
+              behind = target-behind (formed-accepted (p .0 .formed)) (p .1 .1 .1 .known) (item-holds i) (is-target c) P;
               left = N .state;
               leaves = N .by;
             },
@@ -216,19 +216,23 @@ module _ (t : ℕ) where
       let i = inside g in
       let z = begins (i .before) in
       let p = z .pre .1 in
-      let h = p .1 .1 .1 .1 in
-      let (L, N) = next g (p .1 .1 .0 .memory) (h .state) (p .1 .1 .0 .is) (p .1 .1 .0 .spoken) (h .holds) in (
+      let h = p .1 .1 .0 in
+      let (L, N) = next g (h .memory) (h .state) (h .is) (h .spoken) (h .holds) in (
         omega (arith, z .pre .0),
         (
           p .0,
           (
             p .1 .0,
             (
-              record { memory = L .memory; is = L .is; spoken = spoken-own (L .spoken) },
-              (
-                rw (aim w) (come-leaps (formed-accepted (p .0 .formed)) (p .1 .1 .1 .0) (item-holds i) (is-target g)),
-                record { state = N .state; holds = opened w .target-state .ensures (h .state) (h .holds) (N .state) (N .by) },
-              ),
+              record {
+                memory = L .memory;
+                is = L .is;
+                spoken = spoken-own (L .spoken);
+                state = N .state;
+                holds = opened w .target-state .ensures (h .state) (h .holds) (N .state) (N .by);
+                goes = λ d. h .goes (aimed-refused N (L .spoken .pen) (aim w) d);
+              },
+              rw (aim w) (come-leaps (formed-accepted (p .0 .formed)) (p .1 .1 .1) (item-holds i) (is-target g)),
             ),
           ),
         ),

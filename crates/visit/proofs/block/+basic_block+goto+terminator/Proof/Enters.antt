@@ -1,12 +1,12 @@
 -- What is left of `basic_block`: its items are passed, and it returns or is left by its targets; what it ensures are the laws of `Entering`.
 -- Assumes nothing.
 use borrow.Author.Needs.{needs}
-use mathlib.Core.Path.{_≡_, sym, ap, _∙_}
-use mathlib.Core.Bool.{false}
+use mathlib.Core.Path.{_≡_, sym, ap, _∙_, subst}
+use mathlib.Core.Bool.{Bool, false}
 use mathlib.Core.List.{List}
 use Prim.Native.Nat.{ℕ, _-_, _≤_, _<_}
 use native.Mathlib.Omega.{arith}
-use Rattle.model.specs.Answer.{done}
+use Rattle.model.specs.Answer.{refused, done}
 use Rattle.model.specs.Tree.{Forest}
 use Rattle.model.specs.Place.{At}
 use Rattle.model.specs.Function.{nitems, local-types, start, stop, op}
@@ -17,9 +17,9 @@ use Rattle.blocks.proofs.Spots.{formed-accepted}
 use Rattle.state.specs.Value.{value}
 use Rattle.body.specs.Uses.{uses, Gone, after-in}
 use Rattle.visit.specs.Memory.{departs}
-use Rattle.visit.proofs.Heard.{telling, spoken-told, spoken-own}
+use Rattle.visit.proofs.Heard.{telling, spoken-told, spoken-own, stated}
 use Rattle.visit.proofs.Steps.{returns-is, returns-not}
-use Rattle.visit.proofs.Entering.{told-remembers, visits-pen, passes-block, passes-gone, enter-refused, enter-over, enter-leave}
+use Rattle.visit.proofs.Entering.{told-remembers, visits-pen, passes-block, passes-gone, enter-refused, enter-over, enter-leave, enters-departs}
 use Rattle.visit.proofs.block.basic_block.Reads as basic-block
 use Rattle.visit.proofs.block.+basic_block+goto+terminator.Lts-basic_block as basic-block-lts
 use Rattle.visit.proofs.block.+basic_block+goto+terminator.Proof.Claims.{basic-block-at, basic-block-claims}
@@ -92,7 +92,7 @@ module _ (t : ℕ) where
   some-item k =
       let s = stopped (passed k) in
       let p = begins s .pre .1 in
-      omega (arith, s .stop-of .ensures, (formed-accepted (p .0 .formed)) .starts _ (p .1 .1 .1 .0 .known))
+      omega (arith, s .stop-of .ensures, (formed-accepted (p .0 .formed)) .starts _ (p .1 .1 .1 .known))
 
   -- its last item is one of the record's
   last-inside : (k : Kept) → stopped (passed k) .stop-of .result - 1 < nitems (begins (stopped (passed k)) .args .fun .now)
@@ -114,12 +114,12 @@ module _ (t : ℕ) where
   pub start-of-requires : basic-block-lts.Need-start-of-requires (basic-block-claims t) (basic-block-at t) basic-block.Post
   start-of-requires c κs =
       let b : Begun = search in
-      (b .pre .1 .0 .formed .laid, b .pre .1 .1 .1 .1 .0 .known)
+      (b .pre .1 .0 .formed .laid, b .pre .1 .1 .1 .1 .known)
 
   pub stop-of-requires : basic-block-lts.Need-stop-of-requires (basic-block-claims t) (basic-block-at t) basic-block.Post
   stop-of-requires c κs =
       let b : Begun = search in
-      (b .pre .1 .0 .formed .laid, b .pre .1 .1 .1 .1 .0 .known)
+      (b .pre .1 .0 .formed .laid, b .pre .1 .1 .1 .1 .known)
 
   pub slice-aggregate-pass-items : basic-block-lts.Need-slice-aggregate-pass-items (basic-block-claims t) (basic-block-at t) basic-block.Post
   slice-aggregate-pass-items c = search needs
@@ -132,14 +132,14 @@ module _ (t : ℕ) where
       let s : Stopped = search in
       let p = begins s .pre .1 in
       let A = formed-accepted (p .0 .formed) in
-      let l = p .1 .1 .1 .0 .known in (
+      let l = p .1 .1 .1 .known in (
         p .0,
         (
           record {
             order = omega (arith, started s .start-of .ensures, s .stop-of .ensures, A .starts _ l);
             inside = omega (arith, s .stop-of .ensures, stop-inside A (begins s .args .w .block));
           },
-          (p .1 .1 .1 .1, p .1 .1 .0 .spoken .counted),
+          (stated (p .1 .1 .0), p .1 .1 .0 .spoken .counted),
         ),
       )
 
@@ -151,7 +151,7 @@ module _ (t : ℕ) where
       let q : Passed = search in
       let s = stopped q in
       let z = begins s in
-      enter-refused (z .args .w .left) (z .pre .1 .1 .1 .1 .0 .known) E m (passes-block E (z .args .w .block) (started s .start-of .ensures) (s .stop-of .ensures) (q .pass-items .ensures E H)) (c .if1 .taken)
+      enter-refused (z .args .w .left) (z .pre .1 .1 .1 .1 .known) E m (passes-block E (z .args .w .block) (started s .start-of .ensures) (s .stop-of .ensures) (q .pass-items .ensures E H)) (c .if1 .taken)
 
   pub sub-op-of : basic-block-lts.Need-sub-op-of (basic-block-claims t) (basic-block-at t) basic-block.Post
   sub-op-of c = some-item c
@@ -172,7 +172,7 @@ module _ (t : ℕ) where
   returned-requires c κs =
       let k : Kept = search in
       let p = begins (stopped (passed k)) .pre .1 in
-      let (w, u, G) = gone k (p .1 .1 .1 .1 .state) (p .1 .1 .1 .1 .holds) in
+      let (w, u, G) = gone k (p .1 .1 .0 .state) (p .1 .1 .0 .holds) in
       (p .0, (last-inside k, (record { state = w .0; holds = G .state }, (spoken-told (p .1 .1 .0 .spoken) (G .lines)) .counted)))
 
   pub same-length-2 : basic-block-lts.Need-same-length-2 (basic-block-claims t) (basic-block-at t) basic-block.Post
@@ -186,7 +186,7 @@ module _ (t : ℕ) where
       let z = begins s in
       let (w, u, G) = gone k E H in
       let e = s .stop-of .ensures in
-      enter-over (z .args .w .left) (z .pre .1 .1 .1 .1 .0 .known) E m (formed-accepted (z .pre .1 .0 .formed)) u (G .lines) (ap (λ (i : ℕ). i - 1) e)
+      enter-over (z .args .w .left) (z .pre .1 .1 .1 .1 .known) E m (formed-accepted (z .pre .1 .0 .formed)) u (G .lines) (ap (λ (i : ℕ). i - 1) e)
       (returns-is _ _ (ap (λ (i : ℕ). op (z .args .fun .now) (i - 1)) (sym e) ∙ sym (asked r .op-of .ensures) ∙ ends r .if2 .taken)) R N (r .returned .ensures (w .0) (G .state))
 
   pub slice-aggregate-terminator : basic-block-lts.Need-slice-aggregate-terminator (basic-block-claims t) (basic-block-at t) basic-block.Post
@@ -197,20 +197,34 @@ module _ (t : ℕ) where
 
   pub terminator-requires : basic-block-lts.Need-terminator-requires (basic-block-claims t) (basic-block-at t) basic-block.Post
   terminator-requires c κs =
+      let n : Goes = search in
+      let q : Asked = search in
       let k : Kept = search in
-      let z = begins (stopped (passed k)) in
+      let s = stopped (passed k) in
+      let z = begins s in
+      let a = z .args in
       let p = z .pre .1 in
       let o = p .1 .1 .0 in
-      let r = z .args .o .recording in
-      let (w, u, G) = gone k (p .1 .1 .1 .1 .state) (p .1 .1 .1 .1 .holds) in (
+      let r = a .o .recording in
+      let (w, u, G) = gone k (o .state) (o .holds) in
+      let S = spoken-told (o .spoken) (G .lines) in
+      let m = telling r (w .1) (o .memory) in
+      let e = enters-departs (a .types .now) (a .fun .now) r (a .w .left) (a .w .block) (p .1 .1 .1 .known) (o .state) (o .memory) u (returns-not _ _ (λ d. n .if2 .left (q .op-of .ensures ∙ ap (λ (i : ℕ). op (a .fun .now) (i - 1)) (s .stop-of .ensures) ∙ d))) in (
         omega (arith, z .pre .0),
         (
           p .0,
           (
             p .1 .0,
             (
-              record { memory = telling r (w .1) (o .memory); is = told-remembers r (w .1) (o .is); spoken = spoken-own (spoken-told (o .spoken) (G .lines)) },
-              (p .1 .1 .1 .0, record { state = w .0; holds = G .state }),
+              record {
+                memory = m;
+                is = told-remembers r (w .1) (o .is);
+                spoken = spoken-own S;
+                state = w .0;
+                holds = G .state;
+                goes = λ d. o .goes (e ∙ subst (λ (b : Bool). departs (a .types .now) (a .fun .now) b (a .w .left) (a .w .block) (w .0) m ≡ refused 0) (S .pen) d);
+              },
+              p .1 .1 .1,
             ),
           ),
         ),
@@ -241,7 +255,7 @@ module _ (t : ℕ) where
       let r = a .o .recording in
       let (w, u, G) = gone k E H in
       let S = spoken-told N (G .lines) in
-      enter-leave (a .w .left) (z .pre .1 .1 .1 .1 .0 .known) E m (formed-accepted (z .pre .1 .0 .formed)) u (G .lines)
+      enter-leave (a .w .left) (z .pre .1 .1 .1 .1 .known) E m (formed-accepted (z .pre .1 .0 .formed)) u (G .lines)
       (returns-not _ _ (λ d. goes n .if2 .left (goes-asked n .op-of .ensures ∙ ap (λ (i : ℕ). op (a .fun .now) (i - 1)) (s .stop-of .ensures) ∙ d)))
       (visits-pen (λ b. departs (a .types .now) (a .fun .now) b (a .w .left) (a .w .block) (w .0) (telling r (w .1) m)) (S .pen)
       (n .terminator .ensures (telling r (w .1) m) (w .0) (told-remembers r (w .1) R) (spoken-own S) (G .state)))

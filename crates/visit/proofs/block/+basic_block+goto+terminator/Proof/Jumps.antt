@@ -1,14 +1,16 @@
 -- What is left of `goto`: a join point is met, any other block is entered, and the way has not entered it; what it ensures are the laws of
 -- `Steps`. Assumes nothing.
 use borrow.Author.Needs.{needs}
-use mathlib.Core.Path.{_≡_, sym, _∙_}
+use mathlib.Core.Path.{_≡_, sym, ap, _∙_}
 use mathlib.Core.Bool.{true, false}
 use Prim.Native.Nat.{ℕ, suc, _-_, _<_}
 use native.Mathlib.Omega.{arith}
 use Rattle.model.specs.Block.{is-join-point}
 use Rattle.blocks.proofs.Spots.{formed-accepted}
+use Rattle.visit.specs.Memory as Memory
 use Rattle.visit.specs.Ways.{Come}
 use Rattle.visit.specs.Visits.{exit}
+use Rattle.visit.proofs.Heard.{ongoing-as}
 use Rattle.visit.proofs.Shelves.{share-joins, none-joins}
 use Rattle.visit.proofs.Ways.{leaps-come}
 use Rattle.visit.proofs.Steps.{jumps-meet, jumps-enter}
@@ -50,31 +52,33 @@ module _ (t : ℕ) where
   joins : (h : Meeting) → is-join-point (meets h .args .fun .now) (meets h .args .j .block) ≡ true
   joins h =
       let p = meets h .pre .1 in
-      share-joins _ _ (λ z. h .if1 .taken (p .1 .0 .numbers _ (p .1 .1 .1 .0 .known) ∙ z))
+      share-joins _ _ (λ z. h .if1 .taken (p .1 .0 .numbers _ (p .1 .1 .1 .known) ∙ z))
 
   -- or none
   apart : (h : Entering) → is-join-point (enters h .args .fun .now) (enters h .args .j .block) ≡ false
   apart h =
       let p = enters h .pre .1 in
-      none-joins _ _ (sym (p .1 .0 .numbers _ (p .1 .1 .1 .0 .known)) ∙ h .if1 .left)
+      none-joins _ _ (sym (p .1 .0 .numbers _ (p .1 .1 .1 .known)) ∙ h .if1 .left)
 
   -- and the way goes on there
   come : (h : Entering) → let a = enters h .args in
       (0 < a .j .left) × Come (a .types .now) (a .fun .now) (record { block = a .j .block; left = a .j .left - 1 })
-  come h = let p = enters h .pre .1 in leaps-come (formed-accepted (p .0 .formed)) (p .1 .1 .1 .0) (apart h)
+  come h = let p = enters h .pre .1 in leaps-come (formed-accepted (p .0 .formed)) (p .1 .1 .1) (apart h)
 
   pub mul-if1 : goto-lts.Need-mul-if1 (goto-claims t) (goto-at t) goto.Post
-  mul-if1 c = let b : Begun = search in record { fits = omega (arith, b .pre .1 .1 .1 .1 .0 .known, b .pre .1 .0 .formed .laid .most-blocks) }
+  mul-if1 c = let b : Begun = search in record { fits = omega (arith, b .pre .1 .1 .1 .1 .known, b .pre .1 .0 .formed .laid .most-blocks) }
 
   pub shared-slice-read-if1 : goto-lts.Need-shared-slice-read-if1 (goto-claims t) (goto-at t) goto.Post
-  shared-slice-read-if1 c = let b : Begun = search in omega (arith, b .pre .1 .1 .1 .1 .0 .known, b .pre .1 .1 .0 .long)
+  shared-slice-read-if1 c = let b : Begun = search in omega (arith, b .pre .1 .1 .1 .1 .known, b .pre .1 .1 .0 .long)
 
   pub meet-requires : goto-lts.Need-meet-requires (goto-claims t) (goto-at t) goto.Post
   meet-requires c κs =
       let h : Meeting = search in
+      let a = meets h .args in
       let p = meets h .pre .1 in
-      let L = p .1 .1 .1 .0 in
-      (p .0, (p .1 .0, (p .1 .1 .0, ((L .item, L .known), (joins h, p .1 .1 .1 .1)))))
+      let L = p .1 .1 .1 in
+      let O = p .1 .1 .0 in
+      (p .0, (p .1 .0, (ongoing-as O (jumps-meet (a .types .now) (a .fun .now) (a .o .recording) (a .j .left) (exit (a .fun .now) (a .j .entry) (a .j .item) (a .j .block) (O .state)) (O .memory) (joins h)), ((L .item, L .known), joins h))))
 
   pub same-length : goto-lts.Need-same-length (goto-claims t) (goto-at t) goto.Post
   same-length c = search needs
@@ -106,8 +110,23 @@ module _ (t : ℕ) where
   basic-block-requires c κs =
       let h : Entering = search in
       let z = enters h in
+      let a = z .args in
       let p = z .pre .1 in
-      (omega (arith, (come h) .0, z .pre .0), (p .0, (p .1 .0, (p .1 .1 .0, ((come h) .1, p .1 .1 .1 .1)))))
+      let O = p .1 .1 .0 in
+      let e : a .j .left ≡ suc (a .j .left - 1) = omega (arith, (come h) .0) in (
+        omega (arith, (come h) .0, z .pre .0),
+        (
+          p .0,
+          (
+            p .1 .0,
+            (
+              ongoing-as O (jumps-enter (a .types .now) (a .fun .now) (a .o .recording) (a .j .left) (exit (a .fun .now) (a .j .entry) (a .j .item) (a .j .block) (O .state)) (O .memory) (apart h)
+                  ∙ ap (λ (n : ℕ). Memory.enters (a .types .now) (a .fun .now) (a .o .recording) n (a .j .block) (O .state) (O .memory)) e),
+              (come h) .1,
+            ),
+          ),
+        ),
+      )
 
   pub same-length-6 : goto-lts.Need-same-length-6 (goto-claims t) (goto-at t) goto.Post
   same-length-6 c = search needs
