@@ -29,7 +29,7 @@ use Rattle.env.specs.declared.project.Enum.the-variants.{Of, Refused as Other}
 use Rattle.blocks.proofs.Spots.{formed-accepted, block-stop}
 use Rattle.blocks.proofs.Points.{Matched, matched-holds}
 use Rattle.body.specs.declared.arms.Subject.{Subject}
-use Rattle.body.specs.Given.{Accepted, Stated, In-each}
+use Rattle.state.specs.Given.{Accepted, Stated, In-each}
 use Rattle.body.specs.Arms.{Sought}
 use Rattle.body.specs.Tries.{Matching, Blank}
 use Rattle.body.proofs.Variants.{count-few}

@@ -19,8 +19,9 @@ use Rattle.state.specs.Value.{value}
 use Rattle.statements.specs.Kept.{Alike, Counted}
 use Rattle.statements.specs.declared.Out.{Out}
 use Rattle.statements.proofs.Puts.{alike-at, alike-then, counted-alike, puts-alike, puts-none, puts-then}
-use Rattle.body.specs.Given.{Stated}
-use Rattle.body.specs.Uses.{Says, Tells, Gone, Passes, After}
+use Rattle.state.specs.Given.{Stated}
+use Rattle.statements.specs.Points.{Says, Tells}
+use Rattle.body.specs.Uses.{Gone, Passes, After}
 use Rattle.body.proofs.Runs.{Run, behind}
 
 -- WHAT IS RECORDED

@@ -31,8 +31,9 @@ use Rattle.statements.specs.declared.Out.{Out}
 use Rattle.env.specs.Answers.{Projects}
 use Rattle.env.specs.declared.project.Projected.the-variants.{Nothing, Fold, Unfold, Refused}
 use Rattle.env.specs.declared.project.Usage.{Usage}
-use Rattle.body.specs.Given.{Accepted}
-use Rattle.body.specs.Uses.{point, uses, Says, Tells, Passes}
+use Rattle.state.specs.Given.{Accepted}
+use Rattle.statements.specs.Points.{point, Says, Tells}
+use Rattle.body.specs.Uses.{uses, Passes}
 use Rattle.body.proofs.Places.{place-spot}
 use Rattle.body.proofs.Runs.{Run, behind, uses-pass, uses-none}
 use Rattle.body.proofs.Told.{answer-refused, answer-nothing, answer-fold, answer-unfold, fold-entries, unfold-entries, unfold-short}

@@ -21,7 +21,7 @@ use Rattle.state.specs.Value.{value}
 use Rattle.state.specs.declared.nodes.State.{State}
 use Rattle.blocks.proofs.Spots.{used-in, used-read}
 use Rattle.env.specs.Given.{Given}
-use Rattle.body.specs.Given.{Accepted, Stated}
+use Rattle.state.specs.Given.{Accepted, Stated}
 
 -- the local types pass
 pub locals-pass : (Γ fn : List ℕ) → function-ok Γ fn ≡ true → locals-ok Γ (local-types fn) ≡ true

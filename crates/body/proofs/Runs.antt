@@ -12,7 +12,8 @@ use Rattle.model.specs.Block.{spot-before, uses-place}
 use Rattle.model.specs.Frame.{Line, mark}
 use Rattle.base.specs.Tests.{split}
 use Rattle.base.specs.Answer.{bind-same, bind-done, bind-bind}
-use Rattle.body.specs.Uses.{point, uses}
+use Rattle.statements.specs.Points.{point}
+use Rattle.body.specs.Uses.{uses}
 
 -- a state, and lines
 abbrev pub Run : Type 0

@@ -17,7 +17,8 @@ use Rattle.base.specs.Tests.{split, or-left}
 use Rattle.base.specs.Answer.{bind-same, bind-bind}
 use Rattle.base.specs.Collected.{collect-pass, collect-fail}
 use Rattle.records.specs.Recorded.{mark-append}
-use Rattle.body.specs.Uses.{point, uses}
+use Rattle.statements.specs.Points.{point}
+use Rattle.body.specs.Uses.{uses}
 use Rattle.body.proofs.Runs.{Run, behind, behind-none, uses-pass, uses-fail, uses-none}
 
 -- an item that is no station uses no place

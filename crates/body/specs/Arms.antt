@@ -20,7 +20,7 @@ use Rattle.body.specs.declared.arms.Subject.{Subject}
 use Rattle.body.specs.declared.arms.Rest.{Rest}
 use Rattle.body.specs.declared.arms.Plan.{Plan}
 use Rattle.body.specs.declared.arms.Plan.the-variants.{Plain, Match, Refused}
-use Rattle.body.specs.Given.{In-each}
+use Rattle.state.specs.Given.{In-each}
 
 -- the variant that is left, if it is one
 unfoldable pub rest : Rest → Option ℕ

@@ -1,5 +1,4 @@
 -- What the contracts of body cite beside the definitions of model.
-pub mod Given
 pub mod Uses
 pub mod Arms
 pub mod Tries

@@ -24,7 +24,7 @@ use Rattle.body.specs.declared.arms.Plan.{Plan}
 use Rattle.body.specs.declared.arms.Plan.the-variants.{Match, Refused}
 use Rattle.body.specs.declared.tries.Variant.{Variant}
 use Rattle.body.specs.declared.tries.Variant.the-variants.{Of, Unknown}
-use Rattle.body.specs.Given.{In-each}
+use Rattle.state.specs.Given.{In-each}
 use Rattle.body.specs.Arms.{rest}
 
 -- an option as the code has it

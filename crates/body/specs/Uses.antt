@@ -1,38 +1,27 @@
 -- The places used by a run of items, by model's projection, and what the code leaves of it.
 use mathlib.Core.Path.{_≡_}
 use mathlib.Core.Logic.{_≢_}
-use mathlib.Core.Bool.{Bool, true, false, cond}
+use mathlib.Core.Bool.{Bool, true, false}
 use mathlib.Core.List.{List, [], _++_}
-use Prim.Native.Nat.{ℕ, zero, suc, _-_, _≤_, _<_}
+use Prim.Native.Nat.{ℕ, zero, suc, _-_, _≤_}
 use lib.ListN.{length}
 use Rattle.model.specs.Answer.{Answer, refused, done, _>>=_}
 use Rattle.model.specs.Tree.{Forest}
 use Rattle.model.specs.Place.{At}
 use Rattle.model.specs.Walk.{projection}
 use Rattle.model.specs.Function.{nitems, local-types}
-use Rattle.model.specs.Block.{spot-before, uses-place, entry-point}
+use Rattle.model.specs.Block.{spot-before, uses-place}
 use Rattle.model.specs.Frame.{Line, mark}
-use Rattle.model.specs.Record.{Entry, point-entry, entries}
 use Rattle.records.specs.Here.{Holds}
-use Rattle.mir.specs.Sizes.{Laid}
 use Rattle.state.specs.Value.{value, state-in}
 use Rattle.state.specs.declared.nodes.State.{State}
-use Rattle.statements.specs.Kept.{Alike, Puts}
+use Rattle.statements.specs.Points.{point, Tells}
 use Rattle.statements.specs.declared.Out.{Out}
-use Rattle.statements.specs.declared.Point.{Point}
 use Rattle.body.specs.declared.items.Items.{Items}
 use Rattle.body.specs.declared.items.Passed.{Passed}
-use Rattle.body.specs.Given.{In-each}
+use Rattle.state.specs.Given.{In-each}
 
 -- THE ITEMS
-
--- the point of item i, or the entry's
-unfoldable pub point : List ℕ → Bool → ℕ → ℕ
-point fn entry i = cond entry (entry-point fn) i
-
--- p is that point, in every function that has the item
-abbrev pub Points : ℕ → Bool → Point → Type 0
-Points i entry p = (fn : List ℕ) → Laid fn → i < nitems fn → (p .op, p .arg) ≡ point-entry (entry-point fn) (point fn entry i)
 
 -- these items stand in the function's record
 pub record Within (fn : List ℕ) (w : Items) : Type 0 where
@@ -51,18 +40,6 @@ module _ (Γ fn : List ℕ) where
   -- these items
   abbrev pub run-of : Items → Forest → Answer (Forest × List (Line At))
   run-of w = uses (w .entry) (w .end - w .from) (w .from)
-
--- WHAT IS RECORDED
-
--- a statement of these entries is recorded behind what was, if the pass records; else nothing is
-pub record Says (out : List ℕ) (o : Out) (out′ : List ℕ) (o′ : Out) (es : List Entry) : Type 0 where
-  pub told : o .recording ≡ true → Puts 1 out o out′ o′ es
-  pub silent : o .recording ≡ false → (out′ ≡ out) × Alike o o′
-
--- lines are; the point may be another then
-pub record Tells (fn : List ℕ) (out : List ℕ) (o : Out) (out′ : List ℕ) (o′ : Out) (ls : List (Line At)) : Type 0 where
-  pub told : o .recording ≡ true → Puts (length ls) out o out′ o′ (entries (entry-point fn) ls)
-  pub silent : o .recording ≡ false → (out′ ≡ out) × Alike o o′
 
 -- WHAT IS LEFT
 

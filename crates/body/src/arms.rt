@@ -8,7 +8,7 @@ ghost use Rattle.model.specs.Walk.{downcasting};
 ghost use Rattle.model.specs.Function.{nitems, nblocks, local-types};
 ghost use Rattle.model.specs.Block.{spot-before, uses-place};
 ghost use Rattle.state.specs.Value.{state-in};
-ghost use Rattle.body.specs.Given.{Accepted, Stated, Becomes};
+ghost use Rattle.state.specs.Given.{Accepted, Stated, Becomes};
 ghost use Rattle.body.specs.Arms.{opens, leaves-by, Leaves, Plans};
 ghost use Rattle.body.specs.Tries.{variant-as};
 use crate::tries::Variant;

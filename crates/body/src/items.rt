@@ -10,8 +10,9 @@ ghost use Rattle.model.specs.Function.{nitems, local-types};
 ghost use Rattle.model.specs.Block.{uses-place};
 ghost use Rattle.state.specs.Value.{state-in};
 ghost use Rattle.statements.specs.Kept.{point-of, Counted};
-ghost use Rattle.body.specs.Given.{Accepted, Stated};
-ghost use Rattle.body.specs.Uses.{Points, Within, uses, run-of, Says, after-in, Runs};
+ghost use Rattle.state.specs.Given.{Accepted, Stated};
+ghost use Rattle.statements.specs.Points.{Says};
+ghost use Rattle.body.specs.Uses.{Within, uses, run-of, after-in, Runs};
 use blocks::place::root_before;
 use blocks::place::uses_place;
 use env::project::Projected;
@@ -19,15 +20,12 @@ use env::project::projection;
 use mir::function::args_from;
 use mir::function::local_types;
 use mir::function::ops_from;
-use statements::BEFORE;
-use statements::ENTRY;
 use statements::FOLD;
 use statements::Out;
-use statements::Point;
 use statements::UNFOLD;
 use statements::at_point;
+use statements::point_of;
 use statements::record;
-use statements::small;
 
 // The nodes that the lent arrays have after some items, and what is recorded; a refusal, or 0.
 pub struct Passed {
@@ -41,19 +39,6 @@ pub struct Items {
     pub from: usize,
     pub end: usize,
     pub entry: bool,
-}
-
-// The point of item i, or the entry's.
-pub fn point_of(i: usize, entry: bool) -> Point
-    ensures { λ r. ⌜ Points i entry r ⌝ }
-{
-    if entry {
-        return Point { op: ENTRY, arg: 0 };
-    }
-    Point {
-        op: BEFORE,
-        arg: small(i),
-    }
 }
 
 // One statement of the first n items of a place, if the pass records.

@@ -10,7 +10,7 @@ ghost use Rattle.model.specs.Block.{uses-place};
 ghost use Rattle.model.specs.Body.{variants, variant-of};
 ghost use Rattle.type_record.specs.Sizes.{Ready};
 ghost use Rattle.state.specs.Value.{state-in};
-ghost use Rattle.body.specs.Given.{Accepted, Stated};
+ghost use Rattle.state.specs.Given.{Accepted, Stated};
 ghost use Rattle.body.specs.Arms.{Sought, Plans};
 ghost use Rattle.body.specs.Tries.{variant-as, Tests, Rested, Tries, Ends, Matching, Blank};
 use crate::arms::Plan;

@@ -10,7 +10,7 @@ use borrow.Author.Tests.{eq-eqb, ne-eqb}
 use Rattle.model.specs.Types.{kind, kids}
 use Rattle.model.specs.Tree.{Tree, size, sizes}
 use Rattle.model.specs.Place.{Fold, here}
-use Rattle.model.specs.Collect.{collect, collects}
+use Rattle.model.specs.Collect.{unfolds, collect, collects}
 use Rattle.model.specs.Record.{Entry, verb-entry}
 use Rattle.base.specs.Kinds.{Known}
 use Rattle.records.specs.Here.{Coded}
@@ -18,13 +18,19 @@ use Rattle.records.specs.Coded.{coded-folded, coded-opened, coded-none, coded-s
 use Rattle.statements.specs.declared.Out.{Out}
 use Rattle.statements.specs.Kept.{point-of, Counted, Puts}
 use Rattle.collectors.specs.declared.got.Got.{Got}
-use Rattle.collectors.specs.Trail.{lines-of, way}
+use Rattle.collectors.specs.Trail.{lines, lines-of, way}
 use Rattle.collectors.specs.Gets.{read-to, StandAll, tells-refused, tells-done, Opening, Leading, LeadingAll}
 use Rattle.collectors.proofs.Lines.{way-in, lines-one}
 use Rattle.collectors.proofs.Telling.{ended-at, ended-none, told, tells-again, tells-still, tells-lift, tells-first, tells-both}
 use Rattle.collectors.proofs.Standing.{stands-first, stands-rest}
 
 module _ {Γ fs ws gs vs out : List ℕ} {i j t : ℕ} {q : List Entry} {o : Out} where
+  -- both are folded
+  pub lead-leaves : {r : Got} → Known Γ → getD fs i 0 ≡ 0 → getD gs j 0 ≡ 0 → Counted out o → r ≡ read-to (i + 1) (j + 1) o
+      → Leading Γ out o out r q fs ws i gs vs j t
+  unfolding collect unfolds size lines
+  lead-leaves known z y n e = record { tree = λ x x′ g h. rw (coded-folded known g z, coded-folded known h y) (tells-done (ended-none n e)) }
+
   -- the first tree is folded: what opens it tells all
   module _ {out′ : List ℕ} {a : Got} (known : Known Γ) (z : getD fs i 0 ≡ 0) (A : Opening Γ out o out′ a q gs vs j t) where
     -- refused

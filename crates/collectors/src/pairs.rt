@@ -52,6 +52,9 @@ pub fn collect_node<'a>(
     let i1 = i + 1;
     let j1 = j + 1;
     if f1[i] == 0 {
+        if f2[j] == 0 {
+            return reached(i1, j1, o);
+        }
         let a = unfolds_node(types, offs, f2, w2, c, ops, args, out, o);
         if a.refusal != 0 {
             return a;

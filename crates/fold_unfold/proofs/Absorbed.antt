@@ -12,7 +12,7 @@ use Rattle.model.specs.Passes.{absorb, Store, arrive, take-in, Log, hear, arriv
 use Rattle.model.specs.Body.{frame}
 use Rattle.base.specs.Answer.{bind-same, bind-bind}
 use Rattle.solver.specs.Direct.{visit-agree, opening-agree}
-use Rattle.visit.specs.Memory.{Memory, store-of, with-store, log-of, with-log, hears, arrives, enters, jumps}
+use Rattle.arrival.specs.Memory.{Memory, store-of, with-store, log-of, with-log, hears, arrives, enters, jumps}
 
 module _ (Γ fn : List ℕ) (m : Memory) where
   -- THE FIRST PASS

@@ -25,8 +25,8 @@ use Rattle.demand.specs.Demand.{demand-3}
 use Rattle.demand.specs.Refused.{whole-refuses}
 use Rattle.statements.specs.Kept.{room, Counted, Kept, Finished}
 use Rattle.statements.specs.declared.Out.{Out}
-use Rattle.visit.specs.declared.block.Visit.{Visit}
-use Rattle.visit.specs.declared.block.Visit.the-variants.{Over, Refused as Stopped}
+use Rattle.arrival.specs.declared.jump.Visit.{Visit}
+use Rattle.arrival.specs.declared.jump.Visit.the-variants.{Over, Refused as Stopped}
 use Rattle.fold_unfold.specs.declared.Ghosts.{Ghosts}
 use Rattle.fold_unfold.specs.declared.Ghosts.the-variants.{Done, Refused}
 use Rattle.fold_unfold.specs.Answers.{answer-of, Whole, Checked, Analysed}

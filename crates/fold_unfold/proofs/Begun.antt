@@ -17,8 +17,8 @@ use Rattle.base.specs.Below.{count-room}
 use Rattle.mir.specs.Sizes.{Laid}
 use Rattle.blocks.specs.Points.{share-number}
 use Rattle.state.proofs.Copies.{drop-replicate, take-replicate}
-use Rattle.visit.specs.Memory.{Memory}
-use Rattle.visit.specs.Shares.{kept-in, arrays, Remembers, share-of}
+use Rattle.arrival.specs.Memory.{Memory}
+use Rattle.arrival.specs.Shares.{kept-in, arrays, Remembers, share-of}
 use Rattle.fold_unfold.specs.Runs.{blank, again, fresh, Ranked}
 
 -- each word of zeros is 0, and past them too

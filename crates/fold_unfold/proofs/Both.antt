@@ -18,10 +18,10 @@ use Rattle.base.specs.Answer.{split-answer, then-done}
 use Rattle.demand.specs.Whole.{Passed}
 use Rattle.demand.specs.Refused.{passes-refuse}
 use Rattle.statements.specs.declared.Out.{Out}
-use Rattle.visit.specs.declared.block.Visit.{Visit}
-use Rattle.visit.specs.declared.block.Visit.the-variants.{Over, Refused as Stopped}
-use Rattle.visit.specs.Memory.{Memory, with-store, with-log}
-use Rattle.visit.specs.Shares.{arrays, Remembers}
+use Rattle.arrival.specs.declared.jump.Visit.{Visit}
+use Rattle.arrival.specs.declared.jump.Visit.the-variants.{Over, Refused as Stopped}
+use Rattle.arrival.specs.Memory.{Memory, with-store, with-log}
+use Rattle.arrival.specs.Shares.{arrays, Remembers}
 use Rattle.fold_unfold.specs.Answers.{Analysed}
 use Rattle.fold_unfold.specs.Runs.{pass, blank, again, Inferred, Begins, Ends}
 use Rattle.fold_unfold.proofs.Passed.{uses, pass-first, pass-second}

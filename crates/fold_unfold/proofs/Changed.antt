@@ -14,8 +14,8 @@ use Rattle.model.specs.Block.{entry-point}
 use Rattle.model.specs.Frame.{Line, mark}
 use Rattle.model.specs.Rounds.{put, elem}
 use Rattle.base.specs.Tests.{split, eqb-sym}
-use Rattle.visit.specs.Memory.{Memory}
-use Rattle.visit.specs.Shares.{visited-in, Visited, Unvisited, Arrays, arrays, arrays-in, Alike, Remembers}
+use Rattle.arrival.specs.Memory.{Memory}
+use Rattle.arrival.specs.Shares.{visited-in, Visited, Unvisited, Arrays, arrays, arrays-in, Alike, Remembers}
 use Rattle.fold_unfold.specs.Runs.{visiting, entered, fresh}
 use Rattle.fold_unfold.proofs.Begun.{zero-word}
 use Rattle.fold_unfold.proofs.Rounds.{told}

@@ -20,11 +20,11 @@ use Rattle.statements.specs.declared.Out.{Out}
 use Rattle.queue.specs.Popped.{next, answered, without, Pops}
 use Rattle.queue.specs.declared.Popped.{Popped}
 use Rattle.queue.specs.declared.Popped.the-variants.{Block, Empty}
-use Rattle.visit.specs.Memory.{Memory, popped, enters}
-use Rattle.visit.specs.Shares.{Arrays, arrays, Alike, Remembers}
-use Rattle.visit.specs.Visits.{Spoken, Visits}
-use Rattle.visit.specs.declared.block.Visit.{Visit}
-use Rattle.visit.specs.declared.block.Visit.the-variants.{Over, Refused}
+use Rattle.arrival.specs.Memory.{Memory, popped, enters}
+use Rattle.arrival.specs.Shares.{Arrays, arrays, Alike, Remembers}
+use Rattle.arrival.specs.Visits.{Spoken, Visits}
+use Rattle.arrival.specs.declared.jump.Visit.{Visit}
+use Rattle.arrival.specs.declared.jump.Visit.the-variants.{Over, Refused}
 use Rattle.fold_unfold.specs.Runs.{rest, Ranked, Ends}
 use Rattle.fold_unfold.proofs.Rounds.{Steady, told, Turned, rests}
 use Rattle.fold_unfold.proofs.Weight.{weight, weight-is, height}

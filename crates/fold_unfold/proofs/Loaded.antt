@@ -20,11 +20,11 @@ use Rattle.blocks.specs.Points.{share-number}
 use Rattle.state.specs.Spliced.{fronted}
 use Rattle.state.specs.Value.{value}
 use Rattle.state.specs.declared.nodes.State.{State}
-use Rattle.visit.specs.Memory.{Memory}
-use Rattle.visit.specs.Shares.{Full, Shared, Arrays, share-of, Remembers}
+use Rattle.arrival.specs.Memory.{Memory}
+use Rattle.arrival.specs.Shares.{Full, Shared, Arrays, share-of, Remembers}
 use Rattle.visit.specs.Ways.{Come}
 use Rattle.visit.proofs.Ways.{root-come}
-use Rattle.visit.proofs.Stored.{saved-loaded, saved-fits}
+use Rattle.arrival.proofs.Stored.{saved-loaded, saved-fits}
 
 -- the state S is stored for the block b
 pub record Placed (Γ fn points : List ℕ) (a : Arrays) (b : ℕ) (S : Forest) : Type 0 where

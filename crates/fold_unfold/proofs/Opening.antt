@@ -28,12 +28,13 @@ use Rattle.statements.specs.Kept.{begun, Kept}
 use Rattle.statements.specs.declared.Out.{Out}
 use Rattle.statements.specs.declared.Point.{Point}
 use Rattle.statements.proofs.Puts.{counted-begun, kept-begun, counted-alike}
-use Rattle.body.specs.Uses.{point, uses, Tells, Passes, After}
+use Rattle.statements.specs.Points.{point, Tells}
+use Rattle.body.specs.Uses.{uses, Passes, After}
 use Rattle.body.proofs.Stations.{entry-uses-uses}
-use Rattle.visit.specs.Memory.{Memory, jumps}
-use Rattle.visit.specs.Shares.{Arrays}
-use Rattle.visit.specs.Visits.{Spoken, exit, Visits}
-use Rattle.visit.specs.declared.block.Visit.the-variants.{Refused}
+use Rattle.arrival.specs.Memory.{Memory, jumps}
+use Rattle.arrival.specs.Shares.{Arrays}
+use Rattle.arrival.specs.Visits.{Spoken, exit, Visits}
+use Rattle.arrival.specs.declared.jump.Visit.the-variants.{Refused}
 use Rattle.fold_unfold.specs.Runs.{entered, opens}
 
 -- ALL FOLDED

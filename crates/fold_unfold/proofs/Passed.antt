@@ -14,7 +14,7 @@ use Rattle.model.specs.Rounds.{run-rounds}
 use Rattle.model.specs.Passes.{empty, take-in, infer, take-down, round-two, unvisited, elaborate}
 use Rattle.model.specs.Body.{enter-uses, frame}
 use Rattle.base.specs.Answer.{split-answer, bind-same, bind-bind}
-use Rattle.visit.specs.Memory.{Memory, with-store, log-of, with-log, jumps}
+use Rattle.arrival.specs.Memory.{Memory, with-store, log-of, with-log, jumps}
 use Rattle.fold_unfold.specs.Runs.{entered, opens, rest, pass, blank, again}
 use Rattle.fold_unfold.proofs.Absorbed.{jumps-store, jumps-log}
 

@@ -23,7 +23,7 @@ use Rattle.solver.specs.Told.{take-gives}
 use Rattle.solver.specs.Elaborate.{Under, elaborate-falls, under-opens}
 use Rattle.demand.specs.States.{Ok}
 use Rattle.demand.specs.Whole.{Passed, lawful, entered}
-use Rattle.visit.specs.Memory.{Memory, store-of, with-store, log-of, with-log, popped, enters}
+use Rattle.arrival.specs.Memory.{Memory, store-of, with-store, log-of, with-log, popped, enters}
 use Rattle.fold_unfold.specs.Runs as Runs
 use Rattle.fold_unfold.specs.Runs.{opens, rest, pass, Starts}
 use Rattle.fold_unfold.proofs.Absorbed.{enters-store, jumps-store, enters-log, jumps-log}

@@ -19,8 +19,8 @@ use Rattle.base.specs.Tests.{split}
 use Rattle.base.specs.Below.{count-zero, count-pass, count-fail}
 use Rattle.base.specs.Collected.{collect-zero, collect-back-pass, collect-back-fail}
 use Rattle.blocks.specs.Points.{share-number}
-use Rattle.visit.specs.Memory.{Memory}
-use Rattle.visit.specs.Shares.{Arrays, Saved, Remembers, share-of}
+use Rattle.arrival.specs.Memory.{Memory}
+use Rattle.arrival.specs.Shares.{Arrays, Saved, Remembers, share-of}
 
 -- joined lists of lists, one behind the other
 joined-append : (a b : List (List ℕ)) → joined (a ++ b) ≡ joined a ++ joined b

@@ -19,10 +19,10 @@ use Rattle.base.specs.Below.{sum-same}
 use Rattle.base.specs.Kinds.{Known}
 use Rattle.records.specs.Decode.{decode-encode}
 use Rattle.blocks.specs.Points.{share-number}
-use Rattle.visit.specs.Memory.{Memory}
-use Rattle.visit.specs.Shares.{Saved, Arrays, share-of, Remembers}
-use Rattle.visit.specs.declared.block.Visit.{Visit}
-use Rattle.visit.specs.declared.block.Visit.the-variants.{Over, Refused}
+use Rattle.arrival.specs.Memory.{Memory}
+use Rattle.arrival.specs.Shares.{Saved, Arrays, share-of, Remembers}
+use Rattle.arrival.specs.declared.jump.Visit.{Visit}
+use Rattle.arrival.specs.declared.jump.Visit.the-variants.{Over, Refused}
 use Rattle.fold_unfold.proofs.Rounds.{number}
 
 -- the state that a share holds, by its count

@@ -16,10 +16,10 @@ use Rattle.model.specs.Record.{entries, lent}
 use Rattle.model.specs.Whole.{passes, ghost-statements, shares, whole}
 use Rattle.statements.specs.Kept.{Counted, Kept}
 use Rattle.statements.specs.declared.Out.{Out}
-use Rattle.body.specs.Given.{Accepted}
-use Rattle.visit.specs.Shares.{Shared}
-use Rattle.visit.specs.declared.block.Visit.{Visit}
-use Rattle.visit.specs.declared.block.Visit.the-variants.{Over, Refused as Stopped}
+use Rattle.state.specs.Given.{Accepted}
+use Rattle.arrival.specs.Shares.{Shared}
+use Rattle.arrival.specs.declared.jump.Visit.{Visit}
+use Rattle.arrival.specs.declared.jump.Visit.the-variants.{Over, Refused as Stopped}
 use Rattle.fold_unfold.specs.declared.Ghosts.{Ghosts}
 use Rattle.fold_unfold.specs.declared.Ghosts.the-variants.{Done, Refused}
 

@@ -18,11 +18,11 @@ use Rattle.model.specs.Rounds.{run-rounds}
 use Rattle.model.specs.Passes.{Store, solve, infer, round-two, unvisited}
 use Rattle.model.specs.Body.{enter-uses, frame}
 use Rattle.statements.specs.declared.Out.{Out}
-use Rattle.visit.specs.Shares.{Arrays, arrays, kept-in, Change, Remembers}
-use Rattle.visit.specs.Visits.{Spoken, Visits}
-use Rattle.visit.specs.declared.block.Visit.{Visit}
-use Rattle.visit.specs.declared.block.Visit.the-variants.{Over, Refused}
-use Rattle.visit.specs.Memory.{Memory, store-of, with-store, log-of, with-log, enters, jumps}
+use Rattle.arrival.specs.Shares.{Arrays, arrays, kept-in, Change, Remembers}
+use Rattle.arrival.specs.Visits.{Spoken, Visits}
+use Rattle.arrival.specs.declared.jump.Visit.{Visit}
+use Rattle.arrival.specs.declared.jump.Visit.the-variants.{Over, Refused}
+use Rattle.arrival.specs.Memory.{Memory, store-of, with-store, log-of, with-log, enters, jumps}
 
 -- the block b is visited
 abbrev pub visiting : ℕ → Memory → Memory

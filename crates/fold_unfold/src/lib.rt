@@ -9,6 +9,7 @@ ghost use Rattle.fold_unfold.specs.declared.Ghosts.the-variants.{Done, R
 
 pub mod run;
 
+use arrival::jump::Visit;
 use blocks::join_points::fill_join_points;
 use blocks::place::places_ok;
 use mir::check_function::check_function;
@@ -16,7 +17,6 @@ use run::analyse;
 use statements::finish;
 use statements::wipe;
 use type_record::check_types::check_types;
-use visit::block::Visit;
 
 // The counts of statements and entries, or the refusal.
 pub enum Ghosts {

@@ -5,13 +5,16 @@ ghost use lib.ListN.{length, replicate};
 ghost use Rattle.moments.specs.Lent.{was, after};
 ghost use Rattle.model.specs.State.{most};
 ghost use Rattle.model.specs.Block.{join-points};
-ghost use Rattle.body.specs.Given.{Accepted};
-ghost use Rattle.visit.specs.Shares.{arrays-in, change, Shared};
+ghost use Rattle.state.specs.Given.{Accepted};
+ghost use Rattle.arrival.specs.Shares.{arrays-in, change, Shared};
 ghost use Rattle.fold_unfold.specs.Answers.{Analysed};
 ghost use Rattle.fold_unfold.specs.Runs.{fresh, Stored, Ranked, Begins, Opening, Opens, Turns, Runs};
+use arrival::jump::Visit;
+use arrival::memory::clear_visited;
+use arrival::memory::set_visited;
+use arrival::memory::stored;
 use body::items::Items;
 use body::items::pass_items;
-use body::items::point_of;
 use mir::function::nblocks;
 use mir::function::nlocals;
 use mir::function::start_of;
@@ -21,14 +24,11 @@ use state::nodes::State;
 use state::share::load_state;
 use statements::Out;
 use statements::begun;
+use statements::point_of;
 use type_record::record::wide;
-use visit::block::Visit;
 use visit::block::Way;
 use visit::block::basic_block;
 use visit::block::begin;
-use visit::memory::clear_visited;
-use visit::memory::set_visited;
-use visit::memory::stored;
 
 // The opening of a pass at the entry.
 fn open_pass(

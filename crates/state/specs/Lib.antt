@@ -4,3 +4,5 @@ pub mod Found
 pub mod Spliced
 pub mod Kids
 pub mod Checked
+-- what every function of a run asks of its records and its state
+pub mod Given

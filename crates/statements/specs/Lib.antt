@@ -1,3 +1,4 @@
 -- What the contracts of statements cite beside the definitions of model.
 pub mod Kept
+pub mod Points
 pub mod Moved

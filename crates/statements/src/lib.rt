@@ -7,6 +7,7 @@ ghost use lib.ListN.{length, take, replicate};
 ghost use Rattle.model.specs.State.{pairs};
 ghost use Rattle.model.specs.Record.{Entry};
 ghost use Rattle.statements.specs.Kept.{begun, at-point, with-counts, point-of, room, Counted, Puts, Finished};
+ghost use Rattle.statements.specs.Points.{Points};
 ghost use Rattle.statements.specs.Moved.{closed, cleared};
 
 // A point: an item, or the entry.
@@ -44,6 +45,19 @@ pub fn at_point(o: Out, p: Point) -> Out
         entries: o.entries,
         recording: o.recording,
         point: p,
+    }
+}
+
+// The point of item i, or the entry's.
+pub fn point_of(i: usize, entry: bool) -> Point
+    ensures { λ r. ⌜ Points i entry r ⌝ }
+{
+    if entry {
+        return Point { op: ENTRY, arg: 0 };
+    }
+    Point {
+        op: BEFORE,
+        arg: small(i),
     }
 }
 

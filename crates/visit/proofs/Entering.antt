@@ -16,14 +16,15 @@ use Rattle.base.specs.Tests.{clash}
 use Rattle.base.specs.Answer.{split-answer}
 use Rattle.base.specs.Function.{FunctionFacts}
 use Rattle.statements.specs.declared.Out.{Out}
-use Rattle.body.specs.Uses.{uses, Tells, Gone, Passes, After}
+use Rattle.body.specs.Uses.{uses, Gone, Passes, After}
+use Rattle.statements.specs.Points.{Tells}
 use Rattle.body.proofs.Passing.{tells-same}
-use Rattle.visit.specs.Memory.{Memory, enters, departs}
-use Rattle.visit.specs.Shares.{Arrays, Remembers, Alike}
-use Rattle.visit.specs.Visits.{Spoken, Visits}
-use Rattle.visit.specs.declared.block.Visit.{Visit}
-use Rattle.visit.specs.declared.block.Visit.the-variants.{Over, Refused}
-use Rattle.visit.proofs.Heard.{told-more, telling, spoken-told}
+use Rattle.arrival.specs.Memory.{Memory, enters, departs}
+use Rattle.arrival.specs.Shares.{Arrays, Remembers, Alike}
+use Rattle.arrival.specs.Visits.{Spoken, Visits}
+use Rattle.arrival.specs.declared.jump.Visit.{Visit}
+use Rattle.arrival.specs.declared.jump.Visit.the-variants.{Over, Refused}
+use Rattle.arrival.proofs.Heard.{told-more, telling, spoken-told}
 use Rattle.visit.proofs.Steps.{enters-uses, departs-none, ret-some, ret-none}
 
 -- all lengths are as they are

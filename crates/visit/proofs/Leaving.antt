@@ -25,15 +25,15 @@ use Rattle.records.specs.Here.{Holds}
 use Rattle.state.specs.Value.{value}
 use Rattle.state.specs.declared.nodes.State.{State}
 use Rattle.statements.specs.declared.Out.{Out}
-use Rattle.body.specs.Uses.{point}
+use Rattle.statements.specs.Points.{point}
 use Rattle.body.specs.Arms.{leaves-by, Chosen, Planned}
 use Rattle.body.specs.declared.arms.Plan.{Plan}
 use Rattle.body.specs.declared.arms.Plan.the-variants.{Refused}
-use Rattle.visit.specs.Memory.{Memory, hears, arrives, enters, jumps, departs}
-use Rattle.visit.specs.Shares.{Arrays, Remembers, Alike}
-use Rattle.visit.specs.Visits.{Spoken, exit, Visits}
-use Rattle.visit.specs.declared.block.Visit.{Visit}
-use Rattle.visit.specs.declared.block.Visit.the-variants.{Over, Refused as Stopped}
+use Rattle.arrival.specs.Memory.{Memory, hears, arrives, enters, jumps, departs}
+use Rattle.arrival.specs.Shares.{Arrays, Remembers, Alike}
+use Rattle.arrival.specs.Visits.{Spoken, exit, Visits}
+use Rattle.arrival.specs.declared.jump.Visit.{Visit}
+use Rattle.arrival.specs.declared.jump.Visit.the-variants.{Over, Refused as Stopped}
 use Rattle.visit.proofs.Entering.{alike-same, alike-then, visits-pen, visits-refused, visits-over}
 
 -- is the item i a target?

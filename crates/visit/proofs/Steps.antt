@@ -28,8 +28,8 @@ use Rattle.body.specs.Arms.{Planned, Behind}
 use Rattle.body.specs.declared.arms.Plan.{Plan}
 use Rattle.body.specs.declared.arms.Plan.the-variants.{Plain, Match, Refused}
 use Rattle.body.proofs.Stations.{stations-uses}
-use Rattle.visit.specs.Memory.{Memory, arrives, enters, jumps, departs}
-use Rattle.visit.proofs.Heard.{telling, hears-told}
+use Rattle.arrival.specs.Memory.{Memory, arrives, enters, jumps, departs}
+use Rattle.arrival.proofs.Heard.{telling, hears-told}
 
 -- A JUMP
 

@@ -22,7 +22,7 @@ use Rattle.graph.specs.Ranges.{Holds}
 use Rattle.graph.specs.Targets.{frame-edges}
 use Rattle.visit.specs.Ways.{Come, Leaps}
 use Rattle.visit.specs.declared.block.Way.{Way}
-use Rattle.visit.specs.declared.block.Jump.{Jump}
+use Rattle.arrival.specs.declared.jump.Jump.{Jump}
 
 -- what passes is collected
 collect-has : {A : Type 0} (p : ℕ → Bool) (f : ℕ → A) (n i j : ℕ) → i ≤ j → j < i + n → p j ≡ true → Has (f j) (collect-from p f n i)

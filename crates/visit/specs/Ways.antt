@@ -9,7 +9,7 @@ use Rattle.model.specs.Body.{frame}
 use Rattle.solver.specs.Lists.{Has}
 use Rattle.solver.specs.Fuel as Fuel
 use Rattle.visit.specs.declared.block.Way.{Way}
-use Rattle.visit.specs.declared.block.Jump.{Jump}
+use Rattle.arrival.specs.declared.jump.Jump.{Jump}
 
 -- a way has come to the block of w, and all but w .left of the blocks are on it
 pub record Come (Γ fn : List ℕ) (w : Way) : Type 0 where

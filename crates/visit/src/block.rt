@@ -1,24 +1,23 @@
 // `basic_block` and `goto`. A target that is no join point is entered at once.
-ghost use mathlib.Core.Path.{_≡_};
 ghost use mathlib.Core.Bool.{true};
 ghost use Prim.Native.Nat.{_<_};
 ghost use Rattle.moments.specs.Lent.{was, after};
 ghost use Rattle.model.specs.Function.{nitems, nblocks, local-types};
-ghost use Rattle.model.specs.Block.{is-join-point};
 ghost use Rattle.state.specs.Value.{state-in};
 ghost use Rattle.statements.specs.Kept.{Counted};
-ghost use Rattle.body.specs.Given.{Accepted, Stated};
-ghost use Rattle.visit.specs.Shares.{arrays-in, change, Shared};
+ghost use Rattle.state.specs.Given.{Accepted, Stated};
+ghost use Rattle.arrival.specs.Shares.{arrays-in, change, Shared};
 ghost use Rattle.visit.specs.Ways.{Come, Leaps};
-ghost use Rattle.visit.specs.Visits.{meeting, jumping, entering, departing, Ongoing, Returns, Meets, Jumps, Enters, Departs, start-jump};
-use crate::arrive::arrive;
-use crate::arrive::reconcile;
+ghost use Rattle.arrival.specs.Visits.{Ongoing};
+ghost use Rattle.visit.specs.Visits.{jumping, entering, departing, Returns, Jumps, Enters, Departs, start-jump};
+use arrival::jump::Jump;
+use arrival::jump::Visit;
+use arrival::meet::meet;
 use body::arms::Plan;
 use body::arms::plan_of;
 use body::arms::target_state;
 use body::items::Items;
 use body::items::pass_items;
-use body::items::point_of;
 use collect::states::collect_folds_at_ret;
 use mir::function::arg_of;
 use mir::function::local_types;
@@ -30,83 +29,13 @@ use mir::function::stop_of;
 use state::nodes::State;
 use statements::Out;
 use statements::at_point;
+use statements::point_of;
 use type_record::record::wide;
-
-// How a visit ends: with what is recorded, or refused.
-pub enum Visit {
-    Over(Out),
-    Refused(u32),
-}
 
 // A block that is entered, and how many blocks the way to it has not entered.
 pub struct Way {
     pub block: usize,
     pub left: usize,
-}
-
-// A jump to a block, by an item or from the entry, and how many blocks the way to it has not entered.
-pub struct Jump {
-    pub item: usize,
-    pub entry: bool,
-    pub block: usize,
-    pub left: usize,
-}
-
-// The state s arrives at a join point.
-fn meet(
-    types: &[u32],
-    offs: &[u32],
-    fun: &[u32],
-    points: &[u32],
-    memo: &mut [u32],
-    waits: &mut [u32],
-    forms: &mut [u16],
-    whats: &mut [u16],
-    out: &mut [u32],
-    j: Jump,
-    s: State,
-    o: Out,
-) -> Visit
-    requires { ⌜ Accepted (now types) (now offs) (now fun) ⌝ }
-    requires { ⌜ Shared (now fun) (now points) ⌝ }
-    requires { ⌜ Ongoing (now types) (now fun) (arrays-in (now memo) (now waits) (now forms) (now whats)) (now out) o s (meeting (now types) (now fun) j) ⌝ }
-    requires { ⌜ (j .item < nitems (now fun)) × (j .block < nblocks (now fun)) ⌝ }
-    requires { ⌜ is-join-point (now fun) (j .block) ≡ true ⌝ }
-    ensures { λ r. ⌜ Meets (was types) (was fun) (change memo waits forms whats) out j s o r ⌝ }
-{
-    let c = j.block;
-    let a = 512 * (wide(points[c]) - 1);
-    let e = a + 512;
-    if o.recording {
-        return reconcile(
-            types,
-            offs,
-            fun,
-            memo,
-            waits,
-            j,
-            s,
-            &forms[a..e],
-            &whats[a..e],
-            out,
-            o,
-        );
-    }
-    let r = arrive(
-        types,
-        offs,
-        fun,
-        memo,
-        waits,
-        c,
-        s,
-        &mut forms[a..e],
-        &mut whats[a..e],
-    );
-    if r != 0 {
-        return Visit::Refused(r);
-    }
-    Visit::Over(o)
 }
 
 // What the return at the item i records, in the state of n nodes that these arrays have.

@@ -1,4 +1,2 @@
 // The visit of a block: what happens from its start until every way from it has come to a join point.
-pub mod arrive;
 pub mod block;
-pub mod memory;

@@ -14,7 +14,7 @@ use Rattle.blocks.specs.Points.{matched-read}
 use Rattle.blocks.proofs.Spots.{block-stop}
 use Rattle.blocks.proofs.Points.{matched-holds}
 use Rattle.env.specs.Answers.{enum-of}
-use Rattle.body.specs.Given.{In-each}
+use Rattle.state.specs.Given.{In-each}
 use Rattle.body.proofs.Places.{place-range, place-spot, place-locals, place-holds, place-given}
 use Rattle.body.proofs.Plans.{planned-plain, planned-walk}
 use Rattle.body.proofs.Matches.{item-none, item-some, enum-refused, enum-done}

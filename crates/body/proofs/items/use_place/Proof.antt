@@ -15,7 +15,7 @@ use Rattle.statements.specs.declared.Point.{Point}
 use Rattle.statements.proofs.Puts.{alike-at, counted-alike}
 use Rattle.blocks.proofs.Elements.{spot-args}
 use Rattle.blocks.proofs.Spots.{used-in, ops-long}
-use Rattle.body.specs.Uses.{point}
+use Rattle.statements.specs.Points.{point}
 use Rattle.body.proofs.Places.{place-spot, place-locals, place-given}
 use Rattle.body.proofs.Passing.{passes-alike}
 use Rattle.body.proofs.Placed.{placed-short, placed-refused, placed-nothing, placed-fold, placed-unfold}
@@ -95,7 +95,7 @@ module _ (m : tie.After-local-types) where
   pointed : point-of told-at ≡ point-entry (entry-point (start .args .fun .now)) (point (start .args .fun .now) (start .args .entry) (start .args .i))
   pointed =
       let (A, (l, _)) = start .pre in
-      ap point-of (set-point .at-point .ensures) ∙ set-point .before .point-of .ensures (start .args .fun .now) (A .formed .laid) l
+      ap point-of (set-point .at-point .ensures) ∙ set-point .before .point-of .ensures (start .args .fun .now) (A .formed .laid .most-items) l
 
 projection-requires : tie.Need-projection-requires
 projection-requires c κs =

@@ -10,7 +10,7 @@ use Rattle.model.specs.Block.{matched, targets}
 use Rattle.model.specs.Body.{exits-of}
 use Rattle.base.specs.Each.{each-none}
 use Rattle.state.specs.Value.{state-in}
-use Rattle.body.specs.Given.{In-each}
+use Rattle.state.specs.Given.{In-each}
 use Rattle.body.specs.Arms.{Sought}
 use Rattle.body.proofs.Plans.{Leads, leads-same, leads-on, trying, trying-skip, trying-denied, trying-taken, trying-over, planned-refused, planned-match, planned-ended}
 use Rattle.body.proofs.Matches.{match-sought, match-item, match-last, match-behind, match-first}

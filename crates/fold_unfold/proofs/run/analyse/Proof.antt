@@ -6,7 +6,7 @@ use Prim.Native.Nat.{ℕ, _+_, _-_}
 use native.Mathlib.Omega.{arith}
 use lib.ListN.{take, drop, replicate, length-replicate}
 use Rattle.demand.specs.Whole.{Passed}
-use Rattle.visit.specs.Shares.{Remembers}
+use Rattle.arrival.specs.Shares.{Remembers}
 use Rattle.fold_unfold.specs.Runs.{blank, again, fresh, Ranked}
 use Rattle.fold_unfold.proofs.Begun.{zeros-remembered, ranks-there}
 use Rattle.fold_unfold.proofs.Both.{first-sound, first-stops, first-goes, second-begins, second-ends}

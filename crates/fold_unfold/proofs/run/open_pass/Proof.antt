@@ -16,10 +16,10 @@ use Rattle.statements.specs.Kept.{begun}
 use Rattle.statements.specs.declared.Out.{Out}
 use Rattle.statements.proofs.Puts.{counted-begun}
 use Rattle.body.specs.Uses.{uses, After, after-in, Passes}
-use Rattle.visit.specs.Memory.{jumps}
-use Rattle.visit.specs.Visits.{exit}
+use Rattle.arrival.specs.Memory.{jumps}
+use Rattle.arrival.specs.Visits.{exit}
 use Rattle.fold_unfold.specs.Runs.{entered}
-use Rattle.visit.proofs.Heard.{spoken-own}
+use Rattle.arrival.proofs.Heard.{spoken-own}
 use Rattle.visit.proofs.Entering.{visits-pen, visits-later}
 use Rattle.fold_unfold.proofs.Changed.{remembers-entered}
 use Rattle.fold_unfold.proofs.Opening.{Entered, folded-holds, entry-refused, entry-passed, opens-jumps}

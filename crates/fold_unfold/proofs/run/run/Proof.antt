@@ -7,8 +7,8 @@ use borrow.Author.Needs.{needs}
 use Rattle.model.specs.Answer.{refused}
 use Rattle.model.specs.Function.{nblocks}
 use Rattle.base.specs.Kinds.{types-known}
-use Rattle.visit.specs.Memory.{popped, enters}
-use Rattle.visit.proofs.Heard.{spoken-own}
+use Rattle.arrival.specs.Memory.{popped, enters}
+use Rattle.arrival.proofs.Heard.{spoken-own}
 use Rattle.fold_unfold.proofs.Changed.{unwaiting, remembers-cleared}
 use Rattle.fold_unfold.proofs.Rounds.{opened-pass}
 use Rattle.fold_unfold.proofs.Going.{pops-none, going-over, going-refused, stands-rests, stands-turns, stands-less}

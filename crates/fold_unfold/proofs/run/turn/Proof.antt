@@ -11,9 +11,9 @@ use Rattle.model.specs.Answer.{refused}
 use Rattle.model.specs.Tree.{Forest}
 use Rattle.model.specs.Function.{nblocks, local-types}
 use Rattle.blocks.proofs.Spots.{formed-accepted}
-use Rattle.visit.specs.Memory.{Memory, enters}
-use Rattle.visit.specs.Shares.{kept-in, arrays-in, Arrays, Remembers}
-use Rattle.visit.proofs.Memo.{parts-long}
+use Rattle.arrival.specs.Memory.{Memory, enters}
+use Rattle.arrival.specs.Shares.{kept-in, arrays-in, Arrays, Remembers}
+use Rattle.arrival.proofs.Memo.{parts-long}
 use Rattle.fold_unfold.specs.Runs.{visiting}
 use Rattle.visit.proofs.Entering.{visits-later}
 use Rattle.fold_unfold.proofs.Changed.{remembers-visited, alike-visited}

@@ -18,8 +18,8 @@ use Rattle.statements.specs.declared.Out.{Out}
 use Rattle.collectors.specs.Trail.{lines-of, root}
 use Rattle.collect.specs.Answers.{Held-in}
 use Rattle.statements.proofs.Puts.{alike-at, alike-same, counted-alike, puts-alike}
-use Rattle.visit.proofs.Stored.{accepted-locals}
-use Rattle.visit.proofs.Heard.{puts-tells}
+use Rattle.arrival.proofs.Stored.{accepted-locals}
+use Rattle.arrival.proofs.Heard.{puts-tells}
 use Rattle.visit.proofs.block.returned.Statement.{statement}
 use Rattle.visit.proofs.block.returned.Tie as tie
 
@@ -86,7 +86,7 @@ returns c = λ E H.
     let new = g .collect-folds-at-ret .last .1 .1 .1 .1 .1 .1 .0 in
     let Q = subst₂ (λ (k : ℕ) (v : Out). Puts (length (folds-at-ret (z .args .types .now) k E)) (z .args .out .now) v new (g .collect-folds-at-ret .result) (lines-of (point-of v) (root 0) (folds-at-ret (z .args .types .now) k E)))
     (counted u .nargs .ensures) (u .at-point .ensures) P in
-    puts-tells (z .args .i) (folds-at-ret (z .args .types .now) (nargs (z .args .fun .now)) E) (taken g .if1 .taken) (place u .point-of .ensures _ (p .0 .formed .laid) (p .1 .0))
+    puts-tells (z .args .i) (folds-at-ret (z .args .types .now) (nargs (z .args .fun .now)) E) (taken g .if1 .taken) (place u .point-of .ensures (z .args .fun .now) (p .0 .formed .laid .most-items) (p .1 .0))
     (puts-alike (alike-at _ _) Q)
 
 returns-2 : tie.Need-returns-2

@@ -64,10 +64,10 @@ module _ (t : ℕ) where
   -- what the calls in collect_node ask and give
   abbrev pub collect-node-claims : collect-node-lts.Claims
   collect-node-claims = (
-    unfolds-node-reads.Asked,
-    unfolds-node-reads.Learnt,
     reached-reads.Asked,
     reached-reads.Learnt,
+    unfolds-node-reads.Asked,
+    unfolds-node-reads.Learnt,
     record-reads.Asked,
     record-reads.Learnt,
     node-end-reads.Asked,

@@ -11,13 +11,13 @@ use lib.ListN.{length, set}
 use Rattle.model.specs.Answer.{Answer, refused}
 use Rattle.model.specs.Rounds.{lowest}
 use Rattle.model.specs.Function.{nblocks, rank}
-use Rattle.visit.specs.Memory.{Memory, popped, enters}
+use Rattle.arrival.specs.Memory.{Memory, popped, enters}
 use Rattle.demand.specs.Whole.{Passed}
-use Rattle.visit.specs.Shares.{Arrays, arrays-in, Alike, Remembers}
-use Rattle.visit.specs.Visits.{Visits}
+use Rattle.arrival.specs.Shares.{Arrays, arrays-in, Alike, Remembers}
+use Rattle.arrival.specs.Visits.{Visits}
 use Rattle.fold_unfold.specs.Runs.{opens, pass, Starts, fresh}
 use Rattle.fold_unfold.proofs.Rounds.{Turned, turns, opened-steady, opened-pass}
-use Rattle.visit.proofs.Heard.{spoken-own}
+use Rattle.arrival.proofs.Heard.{spoken-own}
 use Rattle.visit.proofs.Entering.{visits-pen, visits-later}
 use Rattle.fold_unfold.proofs.Changed.{unwaiting, remembers-unwaiting, remembers-cleared, alike-cleared}
 use Rattle.fold_unfold.proofs.Going.{pops-block, Going, Stands, going-over}

@@ -20,7 +20,7 @@ use Rattle.mir.proofs.function.op_of.Reads as op-of-reads
 use Rattle.mir.proofs.function.start_of.Reads as start-of-reads
 use Rattle.mir.proofs.function.stop_of.Reads as stop-of-reads
 use Rattle.type_record.proofs.record.wide.Reads as wide-reads
-use Rattle.visit.proofs.block.meet.Reads as meet-reads
+use Rattle.arrival.proofs.meet.meet.Reads as meet-reads
 use Rattle.visit.proofs.block.returned.Reads as returned-reads
 
 -- of a block that is entered

@@ -13,12 +13,12 @@ use Rattle.records.specs.Here.{Holds}
 use Rattle.graph.specs.Ranges.{Holds as In-block}
 use Rattle.blocks.proofs.Spots.{formed-accepted}
 use Rattle.state.specs.Value.{value, state-in}
-use Rattle.visit.specs.Memory.{Memory}
-use Rattle.visit.specs.Shares.{arrays-in, Remembers}
-use Rattle.visit.specs.Visits.{Spoken}
-use Rattle.visit.proofs.Memo.{alike-in}
+use Rattle.arrival.specs.Memory.{Memory}
+use Rattle.arrival.specs.Shares.{arrays-in, Remembers}
+use Rattle.arrival.specs.Visits.{Spoken}
+use Rattle.arrival.proofs.Memo.{alike-in}
 use Rattle.visit.proofs.Ways.{come-leaps}
-use Rattle.visit.proofs.Heard.{spoken-own, stated}
+use Rattle.arrival.proofs.Heard.{spoken-own, stated}
 use Rattle.visit.proofs.Steps.{target-behind}
 use Rattle.visit.proofs.Entering.{alike-same, alike-then, visits-refused}
 use Rattle.visit.proofs.Leaving.{Left, Aimed, Onward, left-start, left-skip, left-next, left-over, left-refused, left-end, aimed-refused}

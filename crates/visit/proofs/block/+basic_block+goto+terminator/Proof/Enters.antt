@@ -16,8 +16,8 @@ use Rattle.records.specs.Here.{Holds}
 use Rattle.blocks.proofs.Spots.{formed-accepted}
 use Rattle.state.specs.Value.{value}
 use Rattle.body.specs.Uses.{uses, Gone, after-in}
-use Rattle.visit.specs.Memory.{departs}
-use Rattle.visit.proofs.Heard.{telling, spoken-told, spoken-own, stated}
+use Rattle.arrival.specs.Memory.{departs}
+use Rattle.arrival.proofs.Heard.{telling, spoken-told, spoken-own, stated}
 use Rattle.visit.proofs.Steps.{returns-is, returns-not}
 use Rattle.visit.proofs.Entering.{told-remembers, visits-pen, passes-block, passes-gone, enter-refused, enter-over, enter-leave, enters-departs}
 use Rattle.visit.proofs.block.basic_block.Reads as basic-block

@@ -7,11 +7,11 @@ use Prim.Native.Nat.{ℕ, suc, _-_, _<_}
 use native.Mathlib.Omega.{arith}
 use Rattle.model.specs.Block.{is-join-point}
 use Rattle.blocks.proofs.Spots.{formed-accepted}
-use Rattle.visit.specs.Memory as Memory
+use Rattle.arrival.specs.Memory as Memory
 use Rattle.visit.specs.Ways.{Come}
-use Rattle.visit.specs.Visits.{exit}
-use Rattle.visit.proofs.Heard.{ongoing-as}
-use Rattle.visit.proofs.Shelves.{share-joins, none-joins}
+use Rattle.arrival.specs.Visits.{exit}
+use Rattle.arrival.proofs.Heard.{ongoing-as}
+use Rattle.arrival.proofs.Shelves.{share-joins, none-joins}
 use Rattle.visit.proofs.Ways.{leaps-come}
 use Rattle.visit.proofs.Steps.{jumps-meet, jumps-enter}
 use Rattle.visit.proofs.block.goto.Reads as goto
