@@ -1,17 +1,12 @@
 // What `ghosts` answers to a text: words read from it, the call, and its answer as text.
 ghost use mathlib.Core.Path.{_≡_};
-ghost use mathlib.Core.List.{List};
-ghost use Prim.Native.Nat.{ℕ, _≤_};
+ghost use Prim.Native.Nat.{_≤_};
 ghost use lib.ListN.{length, take};
 ghost use Rattle.model.specs.Answer.{done};
-ghost use Rattle.model.specs.Block.{entry-point};
-ghost use Rattle.model.specs.Whole.{found};
-ghost use Rattle.model.specs.Ghosts.{fresh, close, answer-text, printed, ghosts, ghosts-store, ghosts-buffer};
+ghost use Rattle.model.specs.Ghosts.{fresh, close, printed, ghosts};
 ghost use Rattle.model.specs.Promised.{Answered};
-ghost use Rattle.records.specs.Scanned.{scan-pieces, joined};
-ghost use Rattle.text.specs.Reading.{Reads};
 ghost use Rattle.statements.specs.Moved.{cleared};
-ghost use Rattle.answer.specs.Said.{Ended, Says, Printed};
+ghost use Rattle.answer.specs.Said.{Ended, Says, Printed, Responds, answer-of};
 use fold_unfold::Ghosts;
 use fold_unfold::ghost_statements;
 use text::print::print_record;
@@ -47,7 +42,7 @@ fn buffer() -> [u32; 2050]
 // The statements of a function, or the refusal.
 fn answer_records(types: &[u32], fun: &[u32], text: &mut [u8]) -> usize
     requires { ⌜ length (now text) ≡ 14336 ⌝ }
-    ensures { λ r. ⌜ Says (now (text .entry)) (now (text .exit)) r (answer-text (entry-point (now (fun .entry))) (found (now (types .entry)) (now (fun .entry)) ghosts-store ghosts-store ghosts-buffer)) ⌝ }
+    ensures { λ r. ⌜ Says (now (text .entry)) (now (text .exit)) r (answer-of (now (types .entry)) (now (fun .entry))) ⌝ }
 {
     let mut forms = store();
     let mut whats = store();
@@ -80,7 +75,7 @@ fn answer_words(words: &[u32], text: &mut [u8]) -> usize
 pub fn respond(s: Scan, words: &[u32], text: &mut [u8]) -> usize
     requires { ⌜ Ended s (now words) ⌝ }
     requires { ⌜ length (now text) ≡ 14336 ⌝ }
-    ensures { λ r. ⌜ ((ps : List (List ℕ)) → Reads (close (scan-pieces ps fresh)) s (now (words .entry)) → Says (now (text .entry)) (now (text .exit)) r (ghosts (joined ps))) ⌝ }
+    ensures { λ r. ⌜ Responds s (now (words .entry)) (now (text .entry)) (now (text .exit)) r ⌝ }
     ensures within { λ r. ⌜ r ≤ length (now (text .entry)) ⌝ }
     ensures answered { λ r. ⌜ Answered (take r (now (text .exit))) ⌝ }
 {

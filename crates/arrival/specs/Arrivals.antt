@@ -33,6 +33,10 @@ pub record Tests (r : Bool) (P : Type 0) : Type 0 where
   pub holds : r ≡ true → P
   pub fails : r ≡ false → P → ⊥
 
+-- s is the state that stands in the share, whose count is k
+abbrev pub Stands : ℕ → State → List ℕ → List ℕ → Type 0
+Stands k s fs ws = (k ≡ suc (s .nodes)) × (fs ≡ s .forms) × (ws ≡ s .whats)
+
 -- AN ARRIVAL IN THE FIRST PASS
 
 -- what is stored where the state E arrives, and whether the block is to wait

@@ -47,6 +47,10 @@ kept-in memo = take 256 memo
 abbrev pub visited-in : List ℕ → List ℕ
 visited-in memo = take 256 (drop 256 memo)
 
+-- the array has the words of block b
+abbrev pub Kept-for : ℕ → List ℕ → Type 0
+Kept-for b memo = (b < 256) × (512 ≤ length memo)
+
 -- the count k is stored for the block b
 pub record Stores (memo : List ℕ) (b k : ℕ) (memo′ : List ℕ) : Type 0 where
   pub same : length memo′ ≡ length memo

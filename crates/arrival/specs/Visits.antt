@@ -3,13 +3,13 @@ use mathlib.Core.Path.{_≡_}
 use mathlib.Core.Logic.{_≢_}
 use mathlib.Core.Bool.{Bool, true}
 use mathlib.Core.List.{List}
-use Prim.Native.Nat.{ℕ}
+use Prim.Native.Nat.{ℕ, _<_}
 use lib.ListN.{length}
 use Rattle.moments.specs.Lent.{Lent, was, after}
 use Rattle.model.specs.Answer.{Answer, refused, done}
 use Rattle.model.specs.Tree.{Forest}
 use Rattle.model.specs.Place.{At}
-use Rattle.model.specs.Function.{local-types}
+use Rattle.model.specs.Function.{local-types, nitems, nblocks}
 use Rattle.model.specs.Block.{entry-point}
 use Rattle.model.specs.Frame.{Line, Exit}
 use Rattle.model.specs.Record.{entries}
@@ -24,6 +24,10 @@ use Rattle.arrival.specs.Shares.{Arrays, Change, Remembers, Alike}
 use Rattle.arrival.specs.declared.jump.Jump.{Jump}
 use Rattle.arrival.specs.declared.jump.Visit.{Visit}
 use Rattle.arrival.specs.declared.jump.Visit.the-variants.{Over, Refused}
+
+-- the jump is from an item to a block
+abbrev pub Jump-in : List ℕ → Jump → Type 0
+Jump-in fn j = (j .item < nitems fn) × (j .block < nblocks fn)
 
 -- THE BUFFER
 

@@ -1,12 +1,13 @@
 // Arrivals at a join point, whose share of the store is lent: `goto_join_point` of both passes.
 ghost use mathlib.Core.Path.{_≡_};
-ghost use Prim.Native.Nat.{suc, _<_};
+ghost use Prim.Native.Nat.{_<_};
 ghost use lib.ListN.{length};
 ghost use Rattle.moments.specs.Lent.{was, after};
 ghost use Rattle.model.specs.Function.{nitems, local-types};
+ghost use Rattle.state.specs.Share.{Share};
 ghost use Rattle.statements.specs.Kept.{Counted};
 ghost use Rattle.state.specs.Given.{Accepted, Stated};
-ghost use Rattle.arrival.specs.Arrivals.{Tests, Shelved, Filled, Arriving, Steady, Reconciling};
+ghost use Rattle.arrival.specs.Arrivals.{Tests, Shelved, Filled, Arriving, Steady, Reconciling, Stands};
 use crate::jump::Jump;
 use crate::jump::Visit;
 use crate::memory::set_stored;
@@ -45,8 +46,8 @@ fn same_words(a: &[u16], b: &[u16]) -> bool
 
 // Is the state the one that stands in this share, whose count is k?
 fn stands(k: u32, s: State, forms: &[u16], whats: &[u16]) -> bool
-    requires { ⌜ (length (now forms) ≡ 512) × (length (now whats) ≡ 512) ⌝ }
-    ensures { λ r. ⌜ Tests r ((k ≡ suc (s .nodes)) × (was forms ≡ s .forms) × (was whats ≡ s .whats)) ⌝ }
+    requires { ⌜ Share (now forms) (now whats) ⌝ }
+    ensures { λ r. ⌜ Tests r (Stands k s (was forms) (was whats)) ⌝ }
 {
     if k == 0 {
         return false;

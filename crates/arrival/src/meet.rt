@@ -1,13 +1,11 @@
 // A state arrives at a join point: in the share of the store that the block owns.
 ghost use mathlib.Core.Path.{_≡_};
 ghost use mathlib.Core.Bool.{true};
-ghost use Prim.Native.Nat.{_<_};
 ghost use Rattle.moments.specs.Lent.{was};
-ghost use Rattle.model.specs.Function.{nitems, nblocks};
 ghost use Rattle.model.specs.Block.{is-join-point};
 ghost use Rattle.state.specs.Given.{Accepted};
 ghost use Rattle.arrival.specs.Shares.{arrays-in, change, Shared};
-ghost use Rattle.arrival.specs.Visits.{meeting, Ongoing, Meets};
+ghost use Rattle.arrival.specs.Visits.{meeting, Ongoing, Meets, Jump-in};
 use crate::arrive::arrive;
 use crate::arrive::reconcile;
 use crate::jump::Jump;
@@ -34,7 +32,7 @@ pub fn meet(
     requires { ⌜ Accepted (now types) (now offs) (now fun) ⌝ }
     requires { ⌜ Shared (now fun) (now points) ⌝ }
     requires { ⌜ Ongoing (now types) (now fun) (arrays-in (now memo) (now waits) (now forms) (now whats)) (now out) o s (meeting (now types) (now fun) j) ⌝ }
-    requires { ⌜ (j .item < nitems (now fun)) × (j .block < nblocks (now fun)) ⌝ }
+    requires { ⌜ Jump-in (now fun) j ⌝ }
     requires { ⌜ is-join-point (now fun) (j .block) ≡ true ⌝ }
     ensures { λ r. ⌜ Meets (was types) (was fun) (change memo waits forms whats) out j s o r ⌝ }
 {

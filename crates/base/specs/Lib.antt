@@ -2,6 +2,8 @@
 -- stand on. In the order in which a reader should meet it:
 -- case splits, tests as equations
 pub mod Tests
+-- bounds that contracts ask for
+pub mod Ranges
 -- laws of answers: cases, `Good`, what is accepted; `Accepted`; what is refused
 pub mod Answer
 -- a fact of each element of a list: `Each`

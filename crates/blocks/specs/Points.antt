@@ -3,13 +3,22 @@ use mathlib.Core.Path.{_≡_}
 use mathlib.Core.Bool.{Bool, true, false, cond}
 use mathlib.Core.List.{List, [], _∷_}
 use mathlib.Core.Option.{Option, none, some}
-use Prim.Native.Nat.{ℕ, suc, _+_, _-_, _<_}
+use Prim.Native.Nat.{ℕ, suc, _+_, _-_, _<_, _≤_}
 use lib.Dec.{eqb}
 use Rattle.model.specs.Words.{count-below, collect-from}
-use Rattle.model.specs.Function.{start, stop, op, arg}
+use Rattle.model.specs.Function.{start, stop, op, arg, nblocks, nitems}
 use Rattle.model.specs.Block.{spot-before, root-before, uses-place, is-join-point, latest-note}
 use Rattle.blocks.specs.declared.matching.Item.{Item}
 use Rattle.blocks.specs.declared.matching.Item.the-variants.{At, Nowhere}
+use lib.ListN.{length, getD}
+
+-- all are 0
+abbrev pub Zeros : List ℕ → Type 0
+Zeros a = (i : ℕ) → getD a i 0 ≡ 0
+
+-- a becomes a′, as long, with f of each block
+abbrev pub Of-each-block : List ℕ → (ℕ → ℕ) → (a a′ : List ℕ) → Type 0
+Of-each-block fn f a a′ = (length a′ ≡ length a) × ((b : ℕ) → b < nblocks fn → getD a′ b 0 ≡ f b)
 
 -- the number of a join point's share, from 1 on, in block order; 0 for any other block
 unfoldable pub share-number : List ℕ → ℕ → ℕ
@@ -40,6 +49,22 @@ switch-item fn b = elim (collect-from (λ i. eqb (op fn i) 8) (λ i. i) (stop fn
 abbrev pub item-of : Option ℕ → Item
 item-of none = Nowhere
 item-of (some i) = At i
+
+-- s is an item, at lo or behind it
+abbrev pub Between : List ℕ → ℕ → ℕ → Type 0
+Between fn lo s = (lo ≤ s) × (s < nitems fn)
+
+-- i and j are items
+abbrev pub Two-items : List ℕ → ℕ → ℕ → Type 0
+Two-items fn i j = (i < nitems fn) × (j < nitems fn)
+
+-- both use a place
+abbrev pub Two-places : List ℕ → ℕ → ℕ → Type 0
+Two-places fn i j = (uses-place fn i ≡ true) × (uses-place fn j ≡ true)
+
+-- n items stand from a on, and from b on
+abbrev pub Two-runs : List ℕ → ℕ → ℕ → ℕ → Type 0
+Two-runs fn a b n = (a + n ≤ nitems fn) × (b + n ≤ nitems fn)
 
 -- the n items from a on are those from b on
 abbrev pub Same-items : List ℕ → ℕ → ℕ → ℕ → Type 0

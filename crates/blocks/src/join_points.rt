@@ -1,13 +1,13 @@
 // The graph of blocks: incoming target items, join points and their shares.
 ghost use mathlib.Core.Path.{_≡_};
 ghost use mathlib.Core.Bool.{_||_, _&&_};
-ghost use Prim.Native.Nat.{ℕ, _<_, _≤_};
-ghost use lib.ListN.{length, getD};
+ghost use Prim.Native.Nat.{_<_, _≤_};
+ghost use lib.ListN.{length};
 ghost use lib.Dec.{eqb, ltb};
 ghost use Rattle.model.specs.Function.{nblocks};
 ghost use Rattle.model.specs.Block.{incoming, join-points};
 ghost use Rattle.mir.specs.Sizes.{Formed};
-ghost use Rattle.blocks.specs.Points.{share-number};
+ghost use Rattle.blocks.specs.Points.{share-number, Zeros, Of-each-block};
 use mir::function::arg_of;
 use mir::function::nblocks;
 use mir::function::nitems;
@@ -18,8 +18,8 @@ use type_record::record::wide;
 fn count_incoming(fun: &[u32], counts: &mut [u32])
     requires { ⌜ Formed (now fun) ⌝ }
     requires { ⌜ 256 ≤ length (now counts) ⌝ }
-    requires { ⌜ ((c : ℕ) → getD (now counts) c 0 ≡ 0) ⌝ }
-    ensures { λ r. ⌜ (length (now (counts .exit)) ≡ length (now (counts .entry))) × ((c : ℕ) → c < nblocks (now (fun .entry)) → getD (now (counts .exit)) c 0 ≡ incoming (now (fun .entry)) c) ⌝ }
+    requires { ⌜ Zeros (now counts) ⌝ }
+    ensures { λ r. ⌜ Of-each-block (now (fun .entry)) (incoming (now (fun .entry))) (now (counts .entry)) (now (counts .exit)) ⌝ }
 {
     let n = nitems(fun);
     let mut i = 0;
@@ -50,9 +50,9 @@ fn is_join(n: u32, b: usize) -> bool
 pub fn fill_join_points(fun: &[u32], points: &mut [u32]) -> usize
     requires { ⌜ Formed (now fun) ⌝ }
     requires { ⌜ 256 ≤ length (now points) ⌝ }
-    requires { ⌜ ((c : ℕ) → getD (now points) c 0 ≡ 0) ⌝ }
+    requires { ⌜ Zeros (now points) ⌝ }
     ensures count { λ r. ⌜ r ≡ join-points (now (fun .entry)) ⌝ }
-    ensures shares { λ r. ⌜ (length (now (points .exit)) ≡ length (now (points .entry))) × ((b : ℕ) → b < nblocks (now (fun .entry)) → getD (now (points .exit)) b 0 ≡ share-number (now (fun .entry)) b) ⌝ }
+    ensures shares { λ r. ⌜ Of-each-block (now (fun .entry)) (share-number (now (fun .entry))) (now (points .entry)) (now (points .exit)) ⌝ }
 {
     count_incoming(fun, points);
     let n = nblocks(fun);

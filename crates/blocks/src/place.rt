@@ -1,14 +1,13 @@
 // Places, as runs of items: a root, then deref, field, downcast, index. Refusal 4.
 ghost use mathlib.Core.Path.{_≡_};
-ghost use mathlib.Core.Option.{some};
 ghost use Prim.Native.Nat.{_<_, _≤_};
-ghost use Rattle.model.specs.Place.{Spot, steps, usable, spot-ok, used-ok};
+ghost use Rattle.model.specs.Place.{steps, usable, spot-ok, used-ok};
 ghost use Rattle.model.specs.Function.{nitems};
 ghost use Rattle.model.specs.Block.{root-before, uses-place, places-ok};
 ghost use Rattle.model.specs.Calls.{spot-of};
 ghost use Rattle.records.specs.Spots.{item-ok};
 ghost use Rattle.mir.specs.Sizes.{Laid, Formed};
-ghost use Rattle.mir.specs.Parts.{Spotted, is-some};
+ghost use Rattle.mir.specs.Parts.{Spotted, is-some, Tells};
 use mir::function::args_from;
 use mir::function::nitems;
 use mir::function::nlocals;
@@ -21,7 +20,7 @@ pub const MOST_ELEMENTS: usize = 128;
 // How many deref and field elements stand before an index; ops has the root first.
 fn steps(ops: &[u32], args: &[u32]) -> usize
     requires { ⌜ Spotted (now ops) (now args) ⌝ }
-    ensures { λ r. ⌜ ((q : Spot) → spot-of (now (ops .entry)) (now (args .entry)) ≡ some q → r ≡ steps (q .place)) ⌝ }
+    ensures { λ r. ⌜ Tells (now (ops .entry)) (now (args .entry)) (λ q. steps (q .place)) r ⌝ }
 {
     let n = ops.len();
     let mut k = 0;
@@ -42,7 +41,7 @@ fn steps(ops: &[u32], args: &[u32]) -> usize
 // A used or folded place does not end in downcast with no index before.
 pub fn usable(ops: &[u32], args: &[u32]) -> bool
     requires { ⌜ Spotted (now ops) (now args) ⌝ }
-    ensures { λ r. ⌜ ((q : Spot) → spot-of (now (ops .entry)) (now (args .entry)) ≡ some q → r ≡ usable (q .place)) ⌝ }
+    ensures { λ r. ⌜ Tells (now (ops .entry)) (now (args .entry)) (λ q. usable (q .place)) r ⌝ }
 {
     let n = ops.len();
     let mut cast = false;
@@ -61,7 +60,7 @@ pub fn usable(ops: &[u32], args: &[u32]) -> bool
 // A known local, at most 128 elements, at most `limit` deref and field elements before an index.
 pub fn spot_ok(ops: &[u32], args: &[u32], locals: usize, limit: usize) -> bool
     requires { ⌜ Spotted (now ops) (now args) ⌝ }
-    ensures { λ r. ⌜ ((q : Spot) → spot-of (now (ops .entry)) (now (args .entry)) ≡ some q → r ≡ spot-ok limit locals q) ⌝ }
+    ensures { λ r. ⌜ Tells (now (ops .entry)) (now (args .entry)) (spot-ok limit locals) r ⌝ }
 {
     if locals <= wide(args[0]) {
         return false;
@@ -74,7 +73,7 @@ pub fn spot_ok(ops: &[u32], args: &[u32], locals: usize, limit: usize) -> bool
 
 pub fn used_ok(ops: &[u32], args: &[u32], locals: usize) -> bool
     requires { ⌜ Spotted (now ops) (now args) ⌝ }
-    ensures { λ r. ⌜ ((q : Spot) → spot-of (now (ops .entry)) (now (args .entry)) ≡ some q → r ≡ used-ok locals q) ⌝ }
+    ensures { λ r. ⌜ Tells (now (ops .entry)) (now (args .entry)) (used-ok locals) r ⌝ }
 {
     if !spot_ok(ops, args, locals, 63) {
         return false;

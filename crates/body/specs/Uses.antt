@@ -3,7 +3,7 @@ use mathlib.Core.Path.{_≡_}
 use mathlib.Core.Logic.{_≢_}
 use mathlib.Core.Bool.{Bool, true, false}
 use mathlib.Core.List.{List, [], _++_}
-use Prim.Native.Nat.{ℕ, zero, suc, _-_, _≤_}
+use Prim.Native.Nat.{ℕ, zero, suc, _-_, _≤_, _<_}
 use lib.ListN.{length}
 use Rattle.model.specs.Answer.{Answer, refused, done, _>>=_}
 use Rattle.model.specs.Tree.{Forest}
@@ -22,6 +22,14 @@ use Rattle.body.specs.declared.items.Passed.{Passed}
 use Rattle.state.specs.Given.{In-each}
 
 -- THE ITEMS
+
+-- i is an item that uses a place
+abbrev pub Used-at : List ℕ → ℕ → Type 0
+Used-at fn i = (i < nitems fn) × (uses-place fn i ≡ true)
+
+-- i is an item with another before it
+abbrev pub Preceded : List ℕ → ℕ → Type 0
+Preceded fn i = (0 < i) × (i < nitems fn)
 
 -- these items stand in the function's record
 pub record Within (fn : List ℕ) (w : Items) : Type 0 where

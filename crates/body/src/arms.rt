@@ -1,16 +1,16 @@
 // A match: which variant each target opens, and the state that the target leaves with.
 ghost use mathlib.Core.Path.{_≡_};
-ghost use mathlib.Core.Bool.{true};
 ghost use Prim.Native.Nat.{_<_};
 ghost use Rattle.moments.specs.Lent.{was, after};
-ghost use Rattle.model.specs.Types.{ntypes, kind};
 ghost use Rattle.model.specs.Walk.{downcasting};
 ghost use Rattle.model.specs.Function.{nitems, nblocks, local-types};
-ghost use Rattle.model.specs.Block.{spot-before, uses-place};
+ghost use Rattle.model.specs.Block.{spot-before};
+ghost use Rattle.type_record.specs.Sizes.{Is-enum};
 ghost use Rattle.state.specs.Value.{state-in};
 ghost use Rattle.state.specs.Given.{Accepted, Stated, Becomes};
 ghost use Rattle.body.specs.Arms.{opens, leaves-by, Leaves, Plans};
 ghost use Rattle.body.specs.Tries.{variant-as};
+ghost use Rattle.body.specs.Uses.{Preceded, Used-at};
 use crate::tries::Variant;
 use crate::tries::try_arms;
 use crate::tries::variant_of;
@@ -93,8 +93,8 @@ fn opened_variant(
     i: usize,
 ) -> Variant
     requires { ⌜ Accepted (now types) (now offs) (now fun) ⌝ }
-    requires { ⌜ (t < ntypes (now types)) × (kind (now types) t ≡ 7) ⌝ }
-    requires { ⌜ (0 < i) × (i < nitems (now fun)) ⌝ }
+    requires { ⌜ Is-enum (now types) t ⌝ }
+    requires { ⌜ Preceded (now fun) i ⌝ }
     ensures { λ r. ⌜ r ≡ variant-as (opens (was types) (was fun) t rest i) ⌝ }
 {
     if op_of(fun, i - 1) == 9 {
@@ -118,7 +118,7 @@ fn open_variant(
     nodes: usize,
 ) -> usize
     requires { ⌜ Accepted (now types) (now offs) (now fun) ⌝ }
-    requires { ⌜ (read < nitems (now fun)) × (uses-place (now fun) read ≡ true) ⌝ }
+    requires { ⌜ Used-at (now fun) read ⌝ }
     requires { ⌜ Stated (now types) (local-types (now fun)) (state-in (now forms) (now whats) nodes) ⌝ }
     ensures { λ r. ⌜ Becomes (was types) (was fun) (downcasting (was types) (spot-before (was fun) read) v) (state-in (was forms) (was whats) nodes) (state-in (after forms) (after whats) r) ⌝ }
 {

@@ -2,12 +2,13 @@
 ghost use mathlib.Core.Path.{_≡_};
 ghost use mathlib.Core.Bool.{true};
 ghost use mathlib.Core.List.{_∷_};
-ghost use Prim.Native.Nat.{_≤_, _<_};
-ghost use lib.ListN.{length, take};
+ghost use Prim.Native.Nat.{_<_};
+ghost use lib.ListN.{take};
 ghost use Rattle.moments.specs.Lent.{was, after};
 ghost use Rattle.model.specs.State.{pairs};
 ghost use Rattle.model.specs.Function.{nitems, local-types};
 ghost use Rattle.model.specs.Block.{uses-place};
+ghost use Rattle.base.specs.Ranges.{Both-long};
 ghost use Rattle.state.specs.Value.{state-in};
 ghost use Rattle.statements.specs.Kept.{point-of, Counted};
 ghost use Rattle.state.specs.Given.{Accepted, Stated};
@@ -44,7 +45,7 @@ pub struct Items {
 // One statement of the first n items of a place, if the pass records.
 fn tell(out: &mut [u32], o: Out, verb: u32, ops: &[u32], args: &[u32], n: usize) -> Out
     requires { ⌜ Counted (now out) o ⌝ }
-    requires { ⌜ (n ≤ length (now ops)) × (n ≤ length (now args)) ⌝ }
+    requires { ⌜ Both-long n (now ops) (now args) ⌝ }
     ensures { λ r. ⌜ Says (was out) o (after out) r (point-of o ∷ (verb, 0) ∷ pairs (take n (was ops)) (take n (was args))) ⌝ }
 {
     if o.recording {

@@ -4,15 +4,15 @@ ghost use mathlib.Core.Bool.{true};
 ghost use Prim.Native.Nat.{_<_};
 ghost use lib.ListN.{length};
 ghost use Rattle.moments.specs.Lent.{was, after};
-ghost use Rattle.model.specs.Types.{ntypes, kind, types-ok};
-ghost use Rattle.model.specs.Function.{nitems, nblocks, local-types};
-ghost use Rattle.model.specs.Block.{uses-place};
+ghost use Rattle.model.specs.Types.{ntypes, types-ok};
+ghost use Rattle.model.specs.Function.{nblocks, local-types};
 ghost use Rattle.model.specs.Body.{variants, variant-of};
-ghost use Rattle.type_record.specs.Sizes.{Ready};
+ghost use Rattle.type_record.specs.Sizes.{Ready, Is-enum};
 ghost use Rattle.state.specs.Value.{state-in};
 ghost use Rattle.state.specs.Given.{Accepted, Stated};
 ghost use Rattle.body.specs.Arms.{Sought, Plans};
 ghost use Rattle.body.specs.Tries.{variant-as, Tests, Rested, Tries, Ends, Matching, Blank};
+ghost use Rattle.body.specs.Uses.{Preceded, Used-at};
 use crate::arms::Plan;
 use crate::arms::Rest;
 use crate::arms::Subject;
@@ -39,7 +39,7 @@ pub enum Variant {
 // The variant of a value.
 pub fn variant_of(types: &[u32], offs: &[u32], t: usize, x: usize) -> Variant
     requires { ⌜ Ready (now types) (now offs) ⌝ }
-    requires { ⌜ (t < ntypes (now types)) × (kind (now types) t ≡ 7) ⌝ }
+    requires { ⌜ Is-enum (now types) t ⌝ }
     ensures { λ r. ⌜ r ≡ variant-as (variant-of x (variants (was types) t)) ⌝ }
 {
     let n = count_of(types, t);
@@ -65,7 +65,7 @@ fn try_variant<'a>(
     nodes: usize,
 ) -> Outcome
     requires { ⌜ Accepted (now types) (now offs) (now fun) ⌝ }
-    requires { ⌜ (read < nitems (now fun)) × (uses-place (now fun) read ≡ true) ⌝ }
+    requires { ⌜ Used-at (now fun) read ⌝ }
     requires { ⌜ Stated (now types) (local-types (now fun)) (state-in (now forms) (now whats) nodes) ⌝ }
     ensures { λ r. ⌜ Tests (was types) (was fun) read v (state-in (was forms) (was whats) nodes) r ⌝ }
 {
@@ -99,7 +99,7 @@ fn try_arm<'a>(
 ) -> Outcome
     requires { ⌜ Accepted (now types) (now offs) (now fun) ⌝ }
     requires { ⌜ Sought (now types) (now fun) on ⌝ }
-    requires { ⌜ (0 < i) × (i < nitems (now fun)) ⌝ }
+    requires { ⌜ Preceded (now fun) i ⌝ }
     requires { ⌜ Stated (now types) (local-types (now fun)) (state-in (now forms) (now whats) nodes) ⌝ }
     requires { ⌜ length (now taken) ≡ 16384 ⌝ }
     ensures { λ r. ⌜ Tries (was types) (was fun) on i (state-in (was forms) (was whats) nodes) (was taken) (after taken) r ⌝ }

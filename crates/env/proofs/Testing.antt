@@ -10,10 +10,10 @@ use Rattle.model.specs.State.{State, decode, locals-ok}
 use Rattle.model.specs.Place.{Spot}
 use Rattle.model.specs.Calls.{spot-of}
 use Rattle.base.specs.Tests.{split, split-option, clash}
-use Rattle.mir.specs.Parts.{Spotted, is-some}
+use Rattle.mir.specs.Parts.{Tells, Spotted, is-some}
 use Rattle.input.specs.Input.{Checked}
 use Rattle.env.specs.declared.Aim.{Aim}
-use Rattle.env.specs.Tested.{limits, Tells, passes, Tested}
+use Rattle.env.specs.Tested.{limits, passes, Tested}
 
 module _ (ops args : List ℕ) {b : Bool} (e : b ≡ is-some (spot-of ops args)) where
   -- the items are no place

@@ -19,10 +19,6 @@ limits Uses = used-ok
 limits Folds = fold-ok
 limits Unfolds = unfold-ok
 
--- r is what the test says of the place that the items are
-abbrev pub Tells : (ops args : List ℕ) → (Spot → Bool) → Bool → Type 0
-Tells ops args ok r = (q : Spot) → spot-of ops args ≡ some q → r ≡ ok q
-
 -- there is a place, and it passes the test
 abbrev pub passes : (Spot → Bool) → Option Spot → Bool
 passes ok none = false

@@ -6,10 +6,10 @@ ghost use Rattle.moments.specs.Lent.{was, after};
 ghost use Rattle.model.specs.Place.{Fold, Unfold, fold-ok};
 ghost use Rattle.model.specs.Calls.{spot-of, call-projection, call-downcast, call-carry};
 ghost use Rattle.model.specs.Promised.{use-numbers, unfold-numbers};
-ghost use Rattle.mir.specs.Parts.{Spotted};
+ghost use Rattle.mir.specs.Parts.{Tells, Spotted};
 ghost use Rattle.state.specs.Value.{value};
 ghost use Rattle.env.specs.Answers.{moved-in, refusal, Records, Gives, Uses, Refuses};
-ghost use Rattle.env.specs.Tested.{limits, Tells, passes, Tested};
+ghost use Rattle.env.specs.Tested.{limits, passes, Tested};
 
 pub mod open;
 pub mod project;

@@ -1,13 +1,13 @@
 // One step more where a walk has ended: `Env::downcast`, and an unfold carried out, in the lent arrays of a state that passes.
-ghost use mathlib.Core.Path.{_≡_};
 ghost use Prim.Native.Nat.{_<_};
-ghost use lib.ListN.{length, getD};
+ghost use lib.ListN.{length};
 ghost use Rattle.moments.specs.Lent.{was, after};
 ghost use Rattle.model.specs.Types.{ntypes};
 ghost use Rattle.model.specs.Place.{Unfold, used-ok, unfold-ok};
 ghost use Rattle.records.specs.Here.{Here};
 ghost use Rattle.type_record.specs.Sizes.{Ready};
 ghost use Rattle.state.specs.Value.{state-in};
+ghost use Rattle.state.specs.Found.{Open-at};
 ghost use Rattle.env.specs.Given.{Asked};
 ghost use Rattle.env.specs.Answers.{moved-in};
 ghost use Rattle.env.specs.There.{Staying, Carries-there, Casts-there, Castable-there, Steps-there, Lasts-there, Arrived, Lasts-at, Arrived-folded, Grows-at, Stays-at};
@@ -51,7 +51,7 @@ fn stay<'a>(
     requires { ⌜ Ready (now types) (now offs) ⌝ }
     requires { ⌜ typ < ntypes (now types) ⌝ }
     requires { ⌜ Here (now types) (now forms) (now whats) node typ ⌝ }
-    requires { ⌜ (getD (now forms) node 0 ≡ 0 → ⊥) ⌝ }
+    requires { ⌜ Open-at (now forms) node ⌝ }
     requires { ⌜ Staying more ⌝ }
     ensures { λ r. ⌜ Stays-at (was types) (was forms) (was whats) node typ more r ⌝ }
 {

@@ -4,15 +4,16 @@ use mathlib.Core.Logic.{_≢_}
 use mathlib.Core.Bool.{Bool, true, false}
 use mathlib.Core.List.{List, [], _∷_, _++_}
 use mathlib.Core.Option.{Option, none, some}
-use Prim.Native.Nat.{ℕ, _<_}
+use Prim.Native.Nat.{ℕ, _<_, _*_, _≤_}
 use lib.ListN.{length, replicate}
+use Rattle.model.specs.State.{most}
 use Rattle.moments.specs.Lent.{Lent, was, after}
 use Rattle.model.specs.Words.{word}
 use Rattle.model.specs.Answer.{Answer, refused, done, _>>=_}
 use Rattle.model.specs.Tree.{Forest, leaves}
 use Rattle.model.specs.Place.{At}
 use Rattle.model.specs.Function.{nblocks, rank, local-types}
-use Rattle.model.specs.Block.{entry-uses, entry-point}
+use Rattle.model.specs.Block.{entry-uses, entry-point, join-points}
 use Rattle.model.specs.Frame.{mark, opening-exit}
 use Rattle.model.specs.Rounds.{run-rounds}
 use Rattle.model.specs.Passes.{Store, solve, infer, round-two, unvisited}
@@ -23,6 +24,18 @@ use Rattle.arrival.specs.Visits.{Spoken, Visits}
 use Rattle.arrival.specs.declared.jump.Visit.{Visit}
 use Rattle.arrival.specs.declared.jump.Visit.the-variants.{Over, Refused}
 use Rattle.arrival.specs.Memory.{Memory, store-of, with-store, log-of, with-log, enters, jumps}
+
+-- room for the offset of each type's parts and the share of each block
+abbrev pub Tables : List ℕ → List ℕ → Type 0
+Tables os points = (4096 ≤ length os) × (256 ≤ length points)
+
+-- the store is all zeros
+abbrev pub Wiped : List ℕ → List ℕ → Type 0
+Wiped fs ws = (fs ≡ replicate (length fs) 0) × (ws ≡ replicate (length ws) 0)
+
+-- it has a share for each join point
+abbrev pub Store-long : List ℕ → List ℕ → List ℕ → Type 0
+Store-long fn fs ws = (most * join-points fn ≤ length fs) × (most * join-points fn ≤ length ws)
 
 -- the block b is visited
 abbrev pub visiting : ℕ → Memory → Memory

@@ -1,11 +1,13 @@
 // The whole-function call: the statements of a function.
 ghost use mathlib.Core.Path.{_≡_};
-ghost use Prim.Native.Nat.{ℕ, _≤_};
-ghost use lib.ListN.{length, getD, replicate};
+ghost use Prim.Native.Nat.{ℕ};
+ghost use lib.ListN.{length, replicate};
 ghost use Rattle.model.specs.Replay.{Replayed};
 ghost use Rattle.model.specs.Promised.{One-of, whole-numbers};
+ghost use Rattle.blocks.specs.Points.{Zeros};
 ghost use Rattle.fold_unfold.specs.Answers.{Whole, Checked};
 ghost use Rattle.fold_unfold.specs.declared.Ghosts.the-variants.{Done, Refused};
+ghost use Rattle.fold_unfold.specs.Runs.{Tables};
 
 pub mod run;
 
@@ -44,8 +46,8 @@ fn checked(
     forms: usize,
     whats: usize,
 ) -> u32
-    requires { ⌜ (4096 ≤ length (now offs)) × (256 ≤ length (now points)) ⌝ }
-    requires { ⌜ ((c : ℕ) → getD (now points) c 0 ≡ 0) ⌝ }
+    requires { ⌜ Tables (now offs) (now points) ⌝ }
+    requires { ⌜ Zeros (now points) ⌝ }
     ensures { λ r. ⌜ Checked (now (types .entry)) (now (fun .entry)) forms whats (now (offs .exit)) (now (points .exit)) r ⌝ }
 {
     if !check_types(types, offs) {

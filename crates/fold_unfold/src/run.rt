@@ -1,14 +1,11 @@
 // `run`: a pass is its opening at the entry, then turns until no block waits.
-ghost use mathlib.Core.Path.{_≡_};
 ghost use Prim.Native.Nat.{_*_, _≤_};
-ghost use lib.ListN.{length, replicate};
+ghost use lib.ListN.{length};
 ghost use Rattle.moments.specs.Lent.{was, after};
-ghost use Rattle.model.specs.State.{most};
-ghost use Rattle.model.specs.Block.{join-points};
 ghost use Rattle.state.specs.Given.{Accepted};
 ghost use Rattle.arrival.specs.Shares.{arrays-in, change, Shared};
 ghost use Rattle.fold_unfold.specs.Answers.{Analysed};
-ghost use Rattle.fold_unfold.specs.Runs.{fresh, Stored, Ranked, Begins, Opening, Opens, Turns, Runs};
+ghost use Rattle.fold_unfold.specs.Runs.{fresh, Stored, Ranked, Begins, Opening, Opens, Turns, Runs, Wiped, Store-long};
 use arrival::jump::Visit;
 use arrival::memory::clear_visited;
 use arrival::memory::set_visited;
@@ -206,8 +203,8 @@ pub fn analyse(
 ) -> Visit
     requires { ⌜ Accepted (now types) (now offs) (now fun) ⌝ }
     requires { ⌜ Shared (now fun) (now points) ⌝ }
-    requires { ⌜ (now forms ≡ replicate (length (now forms)) 0) × (now whats ≡ replicate (length (now whats)) 0) ⌝ }
-    requires { ⌜ (most * join-points (now fun) ≤ length (now forms)) × (most * join-points (now fun) ≤ length (now whats)) ⌝ }
+    requires { ⌜ Wiped (now forms) (now whats) ⌝ }
+    requires { ⌜ Store-long (now fun) (now forms) (now whats) ⌝ }
     ensures { λ r. ⌜ Analysed (was types) (was fun) (was forms) (was whats) (was out) (after forms) (after whats) (after out) r ⌝ }
 {
     let mut memo = [0u32; 512];

@@ -1,6 +1,6 @@
 -- A text that is read, whatever bytes each read brings.
 use mathlib.Core.Path.{_≡_}
-use mathlib.Core.Bool.{Bool, false}
+use mathlib.Core.Bool.{Bool, false, true}
 use mathlib.Core.List.{List}
 use Prim.Native.Nat.{ℕ}
 use lib.ListN.{length, take}
@@ -10,6 +10,7 @@ use Rattle.io.specs.Counts.{clamped}
 use Rattle.model.specs.Ghosts.{scan}
 use Rattle.text.specs.declared.scan.Scan.{Scan}
 use Rattle.text.specs.Reading.{Steps}
+use Rattle.answer.specs.Said.{Ended}
 use Rattle.ghosts.specs.declared.More.{More}
 
 -- a piece more is read
@@ -32,3 +33,7 @@ pub record Brings (got : ℤ) (buf : List ℕ) (s : Scan) (words : List ℕ) (r 
   pub steps : Steps (scan (take (clamped got (length buf)) buf)) s words (r .scan) after
   pub goes : r .going ≡ some-came got
   pub ends : r .ended ≡ none-came got
+
+-- an input that has ended has been read whole
+abbrev pub Heard-all : More → List ℕ → Type 0
+Heard-all r words = r .ended ≡ true → Ended (r .scan) words

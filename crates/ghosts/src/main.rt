@@ -2,8 +2,7 @@
 ghost use mathlib.Core.Path.{_≡_};
 ghost use mathlib.Core.Bool.{true};
 ghost use lib.ListN.{length};
-ghost use Rattle.answer.specs.Said.{Ended};
-ghost use Rattle.ghosts.specs.Heard.{Hears, Brings};
+ghost use Rattle.ghosts.specs.Heard.{Hears, Brings, Heard-all};
 use answer::respond;
 use answer::room;
 use libc::STDIN_FILENO;
@@ -54,7 +53,7 @@ fn read_some(s: Scan, words: &mut [u32]) -> More
 // The words of the whole input, if it is read to its end. The turns are counted down from a number that no run uses up, since nothing says that an input ends.
 fn read_all(words: &mut [u32]) -> More
     requires { ⌜ length (now words) ≡ 4096 ⌝ }
-    ensures { λ r. ⌜ (r .ended ≡ true → Ended (r .scan) (now (words .exit))) ⌝ }
+    ensures { λ r. ⌜ Heard-all r (now (words .exit)) ⌝ }
 {
     let mut m = More {
         scan: fresh(),

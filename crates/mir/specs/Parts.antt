@@ -26,6 +26,10 @@ pub record Spotted (ops args : List ℕ) : Type 0 where
   pub spot : Spot
   pub is : spot-of ops args ≡ some spot
 
+-- r is what f says of that place
+abbrev pub Tells : {A : Type 0} → (ops args : List ℕ) → (Spot → A) → A → Type 0
+Tells ops args f r = (q : Spot) → spot-of ops args ≡ some q → r ≡ f q
+
 abbrev pub is-some : {A : Type 0} → Option A → Bool
 is-some none = false
 is-some (some a) = true

@@ -5,6 +5,7 @@ ghost use Prim.Native.Nat.{_<_, _≤_};
 ghost use Rattle.model.specs.Types.{types-ok};
 ghost use Rattle.model.specs.State.{locals-ok};
 ghost use Rattle.model.specs.Function.{nblocks, nitems, may-follow, after, arg-ok, function-sizes, starts-ok, ranks-ok, items-ok, function-ok};
+ghost use Rattle.base.specs.Ranges.{Range};
 ghost use Rattle.type_record.specs.Sizes.{Sized};
 ghost use Rattle.mir.specs.Sizes.{Laid};
 ghost use Rattle.mir.specs.Parts.{type-usable, begins, item-ok};
@@ -75,7 +76,7 @@ fn after_root(before: u32) -> u32
 }
 
 fn after_action(before: u32, op: u32) -> u32
-    requires { ⌜ (5 ≤ op) × (op ≤ 7) ⌝ }
+    requires { ⌜ Range 5 op 7 ⌝ }
     ensures { λ r. ⌜ r ≡ after before op ⌝ }
 {
     if op == READ {

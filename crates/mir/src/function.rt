@@ -1,7 +1,8 @@
 // Reading a function record: L, A, B, I; local types[L]; start[B], rank[B]; op[I], arg[I].
 ghost use mathlib.Core.Path.{_≡_};
-ghost use Prim.Native.Nat.{_+_, _<_, _≤_};
+ghost use Prim.Native.Nat.{_+_, _<_};
 ghost use Rattle.model.specs.Function.{nlocals, nargs, nblocks, nitems, local-types, start, rank, op, arg, stop};
+ghost use Rattle.base.specs.Ranges.{Range};
 ghost use Rattle.mir.specs.Sizes.{Laid};
 ghost use Rattle.mir.specs.Parts.{ops-start, ops-part, args-part};
 use type_record::record::wide;
@@ -108,7 +109,7 @@ pub fn local_types(fun: &[u32]) -> &[u32]
 // The items from i up to j: their codes, and their args.
 pub fn ops_from(fun: &[u32], i: usize, j: usize) -> &[u32]
     requires { ⌜ Laid (now fun) ⌝ }
-    requires { ⌜ (i ≤ j) × (j ≤ nitems (now fun)) ⌝ }
+    requires { ⌜ Range i j (nitems (now fun)) ⌝ }
     ensures { λ r. ⌜ now r ≡ ops-part (now (fun .entry)) i j ⌝ }
 {
     let o = ops_at(fun);
@@ -119,7 +120,7 @@ pub fn ops_from(fun: &[u32], i: usize, j: usize) -> &[u32]
 
 pub fn args_from(fun: &[u32], i: usize, j: usize) -> &[u32]
     requires { ⌜ Laid (now fun) ⌝ }
-    requires { ⌜ (i ≤ j) × (j ≤ nitems (now fun)) ⌝ }
+    requires { ⌜ Range i j (nitems (now fun)) ⌝ }
     ensures { λ r. ⌜ now r ≡ args-part (now (fun .entry)) i j ⌝ }
 {
     let o = ops_at(fun);

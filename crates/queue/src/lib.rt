@@ -1,7 +1,8 @@
 // The waiting blocks (`WorkQueue`): lowest rank first; an insert of a block that waits changes nothing.
 ghost use mathlib.Core.Path.{_≡_};
-ghost use Prim.Native.Nat.{_≤_, _<_};
+ghost use Prim.Native.Nat.{_<_};
 ghost use lib.ListN.{length, set};
+ghost use Rattle.base.specs.Ranges.{Both-long};
 ghost use Rattle.queue.specs.Popped.{Pops};
 
 // The block waits.
@@ -19,7 +20,7 @@ pub enum Popped {
 
 // The waiting block of lowest rank among n, which waits no more.
 pub fn pop(waits: &mut [u32], ranks: &[u32], n: usize) -> Popped
-    requires { ⌜ (n ≤ length (now waits)) × (n ≤ length (now ranks)) ⌝ }
+    requires { ⌜ Both-long n (now waits) (now ranks) ⌝ }
     ensures { λ r. ⌜ Pops (now (waits .entry)) (now (ranks .entry)) n (now (waits .exit)) r ⌝ }
 {
     let mut best = n;

@@ -2,11 +2,16 @@
 use mathlib.Core.Path.{_≡_}
 use mathlib.Core.Bool.{Bool, true, false}
 use mathlib.Core.List.{List}
-use Prim.Native.Nat.{ℕ}
+use Prim.Native.Nat.{ℕ, _≤_}
+use lib.ListN.{length}
 use Rattle.model.specs.State.{levels}
 use Rattle.records.specs.Absent.{Absent, AbsentAll}
 use Rattle.state.specs.Found.{Found, FoundAll}
 use Rattle.state.specs.declared.check_state.End.{End}
+
+-- i of n words have been looked at, and both arrays have them all
+abbrev pub Come-to : ℕ → ℕ → List ℕ → List ℕ → Type 0
+Come-to i n fs ws = (i ≤ n) × (n ≤ length fs) × (n ≤ length ws)
 
 -- F holds of the end, A where there is none
 abbrev pub Says : (ℕ → Type 0) → Type 0 → End → Type 0

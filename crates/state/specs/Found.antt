@@ -5,7 +5,9 @@ use Prim.Native.Nat.{ℕ, _+_, _≤_, _<_}
 use Rattle.model.specs.Types.{ntypes, count, part}
 use Rattle.model.specs.Tree.{Tree, Forest, size, sizes}
 use Rattle.model.specs.Typing.{depth, depths}
+use Rattle.model.specs.Collect.{firsts}
 use Rattle.records.specs.Here.{Coded, CodedAll}
+use lib.ListN.{getD}
 
 -- the n parts of u from part j on are there, and are types
 pub record Fields (Γ : List ℕ) (u j n : ℕ) : Type 0 where
@@ -28,3 +30,20 @@ pub record FoundAll (Γ fs ws : List ℕ) (n d i : ℕ) (ts : List ℕ) (e : ℕ
   pub end : e ≡ i + sizes trees
   pub deep : depths trees ≤ d
   pub within : e ≤ n
+
+module _ (Γ fs ws : List ℕ) where
+  -- a tree of type t that stands at i ends at e
+  abbrev pub Ends : ℕ → ℕ → ℕ → Type 0
+  Ends i t e = (x : Tree) → Coded Γ fs ws i t x → e ≡ i + size x
+
+  -- trees of these types
+  abbrev pub EndsAll : ℕ → List ℕ → ℕ → Type 0
+  EndsAll i ts e = (xs : Forest) → CodedAll Γ fs ws i ts xs → e ≡ i + sizes xs
+
+  -- where the trees of all locals stand, that of local l begins at i
+  abbrev pub Local-at : List ℕ → ℕ → ℕ → Type 0
+  Local-at locals l i = (E : Forest) → CodedAll Γ fs ws 0 locals E → i ≡ sizes (firsts l E)
+
+-- the node at i is open
+abbrev pub Open-at : List ℕ → ℕ → Type 0
+Open-at fs i = getD fs i 0 ≡ 0 → ⊥

@@ -2,6 +2,7 @@
 pub mod Value
 pub mod Found
 pub mod Spliced
+pub mod Share
 pub mod Kids
 pub mod Checked
 -- what every function of a run asks of its records and its state

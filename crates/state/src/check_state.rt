@@ -2,14 +2,15 @@
 ghost use mathlib.Core.Path.{_≡_};
 ghost use mathlib.Core.Bool.{true};
 ghost use Prim.Native.Nat.{_<_, _≤_};
-ghost use lib.ListN.{length, drop};
+ghost use lib.ListN.{drop};
 ghost use Rattle.model.specs.Types.{ntypes};
 ghost use Rattle.model.specs.State.{opens, zeros, decode, locals-ok};
+ghost use Rattle.base.specs.Ranges.{Both-long};
 ghost use Rattle.type_record.specs.Sizes.{Sized, Ready};
 ghost use Rattle.mir.specs.Parts.{is-some};
 ghost use Rattle.state.specs.Value.{value};
 ghost use Rattle.state.specs.Kids.{KidsIn, kid-types};
-ghost use Rattle.state.specs.Checked.{Checked, CheckedAll, CheckedLocals};
+ghost use Rattle.state.specs.Checked.{Checked, CheckedAll, CheckedLocals, Come-to};
 use crate::kids::Kids;
 use crate::kids::first_kid;
 use crate::kids::kids_of;
@@ -60,7 +61,7 @@ fn check_node<'a>(
 ) -> End
     requires { ⌜ Ready (now types) (now offs) ⌝ }
     requires { ⌜ t < ntypes (now types) ⌝ }
-    requires { ⌜ (n ≤ length (now forms)) × (n ≤ length (now whats)) ⌝ }
+    requires { ⌜ Both-long n (now forms) (now whats) ⌝ }
     ensures { λ r. ⌜ Checked (now (types .entry)) (now (forms .entry)) (now (whats .entry)) n d i t r ⌝ }
 {
     if n <= i {
@@ -95,7 +96,7 @@ fn check_fields<'a>(
 ) -> End
     requires { ⌜ Ready (now types) (now offs) ⌝ }
     requires { ⌜ KidsIn (now types) ks ⌝ }
-    requires { ⌜ (i ≤ n) × (n ≤ length (now forms)) × (n ≤ length (now whats)) ⌝ }
+    requires { ⌜ Come-to i n (now forms) (now whats) ⌝ }
     ensures { λ r. ⌜ CheckedAll (now (types .entry)) (now (forms .entry)) (now (whats .entry)) n d i (kid-types (now (types .entry)) ks) r ⌝ }
 {
     if ks.count == 0 {
@@ -119,7 +120,7 @@ fn check_locals<'a>(
 ) -> bool
     requires { ⌜ Ready (now types) (now offs) ⌝ }
     requires { ⌜ locals-ok (now types) (now locals) ≡ true ⌝ }
-    requires { ⌜ (n ≤ length (now forms)) × (n ≤ length (now whats)) ⌝ }
+    requires { ⌜ Both-long n (now forms) (now whats) ⌝ }
     ensures { λ r. ⌜ CheckedLocals (now (types .entry)) (now (forms .entry)) (now (whats .entry)) n (now (locals .entry)) r ⌝ }
 {
     let m = locals.len();

@@ -4,12 +4,10 @@ ghost use mathlib.Core.Bool.{true};
 ghost use Prim.Native.Nat.{_+_, _<_, _≤_};
 ghost use lib.ListN.{length};
 ghost use Rattle.model.specs.Types.{ntypes, parts};
-ghost use Rattle.model.specs.Tree.{Tree, Forest, size, sizes};
 ghost use Rattle.model.specs.State.{locals-ok};
-ghost use Rattle.model.specs.Collect.{firsts};
-ghost use Rattle.records.specs.Here.{Coded, CodedAll, Here, Heres};
+ghost use Rattle.records.specs.Here.{Here, Heres};
 ghost use Rattle.type_record.specs.Sizes.{Ready};
-ghost use Rattle.state.specs.Found.{Fields};
+ghost use Rattle.state.specs.Found.{Fields, Ends, EndsAll, Local-at};
 use type_record::record::count_of;
 use type_record::record::first_of;
 use type_record::record::owner_of;
@@ -41,7 +39,7 @@ pub fn node_end<'a>(
     requires { ⌜ Ready (now types) (now offs) ⌝ }
     requires { ⌜ t < ntypes (now types) ⌝ }
     requires { ⌜ Here (now types) (now forms) (now whats) i t ⌝ }
-    ensures { λ r. ⌜ ((x : Tree) → Coded (now (types .entry)) (now (forms .entry)) (now (whats .entry)) i t x → r ≡ i + size x) ⌝ }
+    ensures { λ r. ⌜ Ends (now (types .entry)) (now (forms .entry)) (now (whats .entry)) i t r ⌝ }
 {
     if forms[i] == 0 {
         i + 1
@@ -68,7 +66,7 @@ pub fn fields_end<'a>(
     requires { ⌜ Ready (now types) (now offs) ⌝ }
     requires { ⌜ Fields (now types) u j n ⌝ }
     requires { ⌜ Heres (now types) (now forms) (now whats) i (parts (now types) u j n) ⌝ }
-    ensures { λ r. ⌜ ((xs : Forest) → CodedAll (now (types .entry)) (now (forms .entry)) (now (whats .entry)) i (parts (now (types .entry)) u j n) xs → r ≡ i + sizes xs) ⌝ }
+    ensures { λ r. ⌜ EndsAll (now (types .entry)) (now (forms .entry)) (now (whats .entry)) i (parts (now (types .entry)) u j n) r ⌝ }
 {
     let mut e = i;
     let mut k = 0;
@@ -97,7 +95,7 @@ pub fn local_at<'a>(
     requires { ⌜ locals-ok (now types) (now locals) ≡ true ⌝ }
     requires { ⌜ l ≤ length (now locals) ⌝ }
     requires { ⌜ Heres (now types) (now forms) (now whats) 0 (now locals) ⌝ }
-    ensures { λ r. ⌜ ((E : Forest) → CodedAll (now (types .entry)) (now (forms .entry)) (now (whats .entry)) 0 (now (locals .entry)) E → r ≡ sizes (firsts l E)) ⌝ }
+    ensures { λ r. ⌜ Local-at (now (types .entry)) (now (forms .entry)) (now (whats .entry)) (now (locals .entry)) l r ⌝ }
 {
     let mut i = 0;
     let mut k = 0;

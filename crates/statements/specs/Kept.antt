@@ -65,3 +65,7 @@ pub record Finished (k : ℕ) (es : List Entry) (out : List ℕ) (o : Out) (out�
   pub written : Kept k es out o → k ≤ length es → r ≡ true
       → out′ ≡ lent (length out) (k ∷ length es ∷ (map (λ e. e .0) es ++ map (λ e. e .1) es))
   pub zeroed : r ≡ false → out′ ≡ replicate (length out) 0
+
+-- whatever statements they are
+abbrev pub Finishes : List ℕ → Out → List ℕ → Bool → Type 0
+Finishes out o out′ r = (k : ℕ) (es : List Entry) → Finished k es out o out′ r

@@ -1,14 +1,14 @@
 // The statement record in a lent buffer: statement count, entry count, op[], arg[]. While it grows, ops stand from word 2 on and
 // args from the middle on; at the end the args move down. Entries for which there is no room are not told from one another.
 ghost use mathlib.Core.Path.{_≡_};
-ghost use mathlib.Core.List.{List, [], _∷_};
-ghost use Prim.Native.Nat.{ℕ, _+_, _%_, _≤_};
+ghost use mathlib.Core.List.{[], _∷_};
+ghost use Prim.Native.Nat.{_+_, _%_, _≤_};
 ghost use lib.ListN.{length, take, replicate};
 ghost use Rattle.model.specs.State.{pairs};
-ghost use Rattle.model.specs.Record.{Entry};
-ghost use Rattle.statements.specs.Kept.{begun, at-point, with-counts, point-of, room, Counted, Puts, Finished};
+ghost use Rattle.base.specs.Ranges.{Both-long};
+ghost use Rattle.statements.specs.Kept.{begun, at-point, with-counts, point-of, room, Counted, Puts, Finishes};
 ghost use Rattle.statements.specs.Points.{Points};
-ghost use Rattle.statements.specs.Moved.{closed, cleared};
+ghost use Rattle.statements.specs.Moved.{closed, cleared, Closable};
 
 // A point: an item, or the entry.
 pub struct Point {
@@ -100,7 +100,7 @@ fn put(out: &mut [u32], o: Out, op: u32, arg: u32) -> Out
 // The first n items.
 fn put_items(out: &mut [u32], o: Out, ops: &[u32], args: &[u32], n: usize) -> Out
     requires { ⌜ Counted (now out) o ⌝ }
-    requires { ⌜ (n ≤ length (now ops)) × (n ≤ length (now args)) ⌝ }
+    requires { ⌜ Both-long n (now ops) (now args) ⌝ }
     ensures { λ r. ⌜ Puts 0 (now (out .entry)) o (now (out .exit)) r (pairs (take n (now (ops .entry))) (take n (now (args .entry)))) ⌝ }
 {
     let mut p = o;
@@ -123,7 +123,7 @@ pub const UNFOLD: u32 = 16;
 // One statement: its point, its verb, the first n items of its place.
 pub fn record(out: &mut [u32], o: Out, verb: u32, ops: &[u32], args: &[u32], n: usize) -> Out
     requires { ⌜ Counted (now out) o ⌝ }
-    requires { ⌜ (n ≤ length (now ops)) × (n ≤ length (now args)) ⌝ }
+    requires { ⌜ Both-long n (now ops) (now args) ⌝ }
     ensures { λ r. ⌜ Puts 1 (now (out .entry)) o (now (out .exit)) r (point-of o ∷ (verb, 0) ∷ pairs (take n (now (ops .entry))) (take n (now (args .entry)))) ⌝ }
     ensures at { λ r. ⌜ r .point ≡ o .point ⌝ }
 {
@@ -167,7 +167,7 @@ pub fn wipe(out: &mut [u32])
 
 // The args move down behind the first e ops.
 fn close_up(out: &mut [u32], r: usize, e: usize)
-    requires { ⌜ (e ≤ r) × (2 + r + e ≤ length (now out)) ⌝ }
+    requires { ⌜ Closable (now out) r e ⌝ }
     ensures { λ x. ⌜ now (out .exit) ≡ closed (now (out .entry)) r e ⌝ }
 {
     let mut k = 0;
@@ -180,7 +180,7 @@ fn close_up(out: &mut [u32], r: usize, e: usize)
 // The record is finished: false, and all zeros, if it cannot be written.
 pub fn finish(out: &mut [u32], o: Out) -> bool
     requires { ⌜ Counted (now out) o ⌝ }
-    ensures { λ r. ⌜ ((k : ℕ) (es : List Entry) → Finished k es (now (out .entry)) o (now (out .exit)) r) ⌝ }
+    ensures { λ r. ⌜ Finishes (now (out .entry)) o (now (out .exit)) r ⌝ }
 {
     let n = out.len();
     let r = room(n);

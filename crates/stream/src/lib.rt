@@ -2,6 +2,7 @@
 ghost use mathlib.Core.Path.{_≡_};
 ghost use Prim.Native.Nat.{_≤_, _<_};
 ghost use lib.ListN.{length};
+ghost use Rattle.stream.specs.Filled.{Filled, Past};
 use libc::STDOUT_FILENO;
 
 // Room for the words of a line.
@@ -33,7 +34,7 @@ pub fn idle(total: usize) -> Reader
 // The word v, n times, as far as there is room.
 fn put(words: &mut [u32], from: usize, v: u64, n: u64) -> usize
     requires { ⌜ from ≤ length (now words) ⌝ }
-    ensures { λ r. ⌜ (r ≤ length (now (words .exit))) × (length (now (words .exit)) ≡ length (now (words .entry))) ⌝ }
+    ensures { λ r. ⌜ Filled (now (words .entry)) r (now (words .exit)) ⌝ }
 {
     let room = words.len();
     let w = (v % 4294967296) as u32;
@@ -50,7 +51,7 @@ fn put(words: &mut [u32], from: usize, v: u64, n: u64) -> usize
 // A word ends, if one is being read.
 pub fn end_word(r: Reader, words: &mut [u32]) -> Reader
     requires { ⌜ r .total ≤ length (now words) ⌝ }
-    ensures { λ s. ⌜ (s .total ≤ length (now (words .exit))) × (length (now (words .exit)) ≡ length (now (words .entry))) ⌝ }
+    ensures { λ s. ⌜ Filled (now (words .entry)) (s .total) (now (words .exit)) ⌝ }
 {
     if r.part == 0 {
         return r;
@@ -86,7 +87,7 @@ fn digit(r: Reader, d: u64) -> Reader
 
 pub fn step(r: Reader, c: u8, words: &mut [u32]) -> Reader
     requires { ⌜ r .total ≤ length (now words) ⌝ }
-    ensures { λ s. ⌜ (s .total ≤ length (now (words .exit))) × (length (now (words .exit)) ≡ length (now (words .entry))) ⌝ }
+    ensures { λ s. ⌜ Filled (now (words .entry)) (s .total) (now (words .exit)) ⌝ }
 {
     match c {
         48..=57 => digit(r, (c - 48) as u64),
@@ -109,7 +110,7 @@ fn wide(x: u32) -> usize
 // The end of the list whose length is word `at`: of what is there.
 pub fn list_end(words: &[u32], at: usize) -> usize
     requires { ⌜ at < length (now words) ⌝ }
-    ensures { λ r. ⌜ (at < r) × (r ≤ length (now (words .entry))) ⌝ }
+    ensures { λ r. ⌜ Past at r (now (words .entry)) ⌝ }
 {
     let n = words.len();
     let k = wide(words[at]);

@@ -23,3 +23,7 @@ Begins m s = (words : List ℕ) → length words ≡ 4096 → Reads m s words
 pub record Steps (f : Model.Scan → Model.Scan) (s : Scan) (words : List ℕ) (r : Scan) (after : List ℕ) : Type 0 where
   pub room : length after ≡ 4096
   pub reads : (m : Model.Scan) → Reads m s words → Reads (f m) r after
+
+-- a step that leaves the array as it is
+abbrev pub Steps-aside : (Model.Scan → Model.Scan) → Scan → Scan → Type 0
+Steps-aside f s r = (words : List ℕ) → length words ≡ 4096 → Steps f s words r words

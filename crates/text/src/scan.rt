@@ -1,10 +1,8 @@
 // The words of a text, read in pieces: decimal numbers below 2^32, parted by blanks and newlines.
 ghost use mathlib.Core.Path.{_≡_};
-ghost use mathlib.Core.List.{List};
-ghost use Prim.Native.Nat.{ℕ};
 ghost use lib.ListN.{length};
 ghost use Rattle.model.specs.Ghosts.{fresh, spoilt, close, digit, scan-byte, scan};
-ghost use Rattle.text.specs.Reading.{Begins, Steps};
+ghost use Rattle.text.specs.Reading.{Begins, Steps, Steps-aside};
 
 pub const MOST_WORDS: usize = 4096;
 
@@ -61,7 +59,7 @@ pub fn close(s: Scan, words: &mut [u32]) -> Scan
 
 // A digit: a number from 2^32 on is other text.
 fn digit(s: Scan, d: u32) -> Scan
-    ensures { λ r. ⌜ ((words : List ℕ) → length words ≡ 4096 → Steps (digit d) s words r words) ⌝ }
+    ensures { λ r. ⌜ Steps-aside (digit d) s r ⌝ }
 {
     let v = 10 * (s.value as u64) + d as u64;
     if 4294967295 < v {

@@ -1,14 +1,14 @@
 // The two records in one list of words, by their sizes as written.
 ghost use mathlib.Core.Path.{_≡_};
-ghost use Prim.Native.Nat.{_^_, _<_};
+ghost use Prim.Native.Nat.{_<_};
 ghost use Rattle.model.specs.Words.{word};
 ghost use Rattle.model.specs.Ghosts.{types-length, function-length};
-ghost use Rattle.text.specs.Parted.{Parted};
+ghost use Rattle.text.specs.Parted.{Parted, Word-at};
 use type_record::record::wide;
 
 // Word i, or 0 past the end.
 fn word(words: &[u32], i: usize) -> usize
-    ensures { λ r. ⌜ (r ≡ word (now (words .entry)) i) × (r < 2 ^ 32) ⌝ }
+    ensures { λ r. ⌜ Word-at (now (words .entry)) i r ⌝ }
 {
     if i < words.len() { wide(words[i]) } else { 0 }
 }

@@ -4,8 +4,8 @@ ghost use mathlib.Core.Bool.{true};
 ghost use Prim.Native.Nat.{_<_, _≤_};
 ghost use lib.ListN.{length, drop};
 ghost use Rattle.model.specs.Words.{all};
-ghost use Rattle.model.specs.Types.{ntypes, kind, count, part, type-sizes, counts-add, field-ok, fields-ok, pointee-ok, variant-ok, variants-ok, type-ok, all-types-ok, types-ok};
-ghost use Rattle.type_record.specs.Sizes.{Sized, Counted, Offsets};
+ghost use Rattle.model.specs.Types.{ntypes, count, type-sizes, counts-add, field-ok, fields-ok, pointee-ok, variant-ok, variants-ok, type-ok, all-types-ok, types-ok};
+ghost use Rattle.type_record.specs.Sizes.{Sized, Counted, Offsets, Fills, Variant-part};
 ghost use Rattle.type_record.specs.Fresh.{value-fresh};
 use crate::record::count_of;
 use crate::record::discriminant;
@@ -43,7 +43,7 @@ fn fill_offsets(types: &[u32], offs: &mut [u32]) -> bool
     requires { ⌜ Sized (now types) ⌝ }
     requires { ⌜ 4096 ≤ length (now offs) ⌝ }
     ensures counts { λ r. ⌜ r ≡ counts-add (now (types .entry)) ⌝ }
-    ensures filled { λ r. ⌜ (r ≡ true → Offsets (now (types .entry)) (now (offs .exit))) ⌝ }
+    ensures filled { λ r. ⌜ Fills (now (types .entry)) (now (offs .exit)) r ⌝ }
     ensures rest { λ r. ⌜ drop (ntypes (now (types .entry))) (now (offs .exit)) ≡ drop (ntypes (now (types .entry))) (now (offs .entry)) ⌝ }
 {
     let n = wide(types[0]);
@@ -118,7 +118,7 @@ fn value_fresh(types: &[u32], offs: &[u32], t: usize, j: usize) -> bool
     requires { ⌜ all (type-ok (now types)) t ≡ true ⌝ }
     requires { ⌜ j < count (now types) t ⌝ }
     requires { ⌜ all (variant-ok (now types) t) j ≡ true ⌝ }
-    requires { ⌜ (part (now types) t j < t) × (kind (now types) (part (now types) t j) ≡ 8) ⌝ }
+    requires { ⌜ Variant-part (now types) t j ⌝ }
     ensures { λ r. ⌜ r ≡ value-fresh (now (types .entry)) t j ⌝ }
 {
     let d = discriminant(types, offs, t, j);

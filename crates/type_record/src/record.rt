@@ -4,7 +4,7 @@ ghost use mathlib.Core.Bool.{true};
 ghost use Prim.Native.Nat.{_<_};
 ghost use lib.ListN.{length, getD};
 ghost use Rattle.model.specs.Types.{ntypes, kind, count, part, owner, first, kids, casts, discriminant, types-ok};
-ghost use Rattle.type_record.specs.Sizes.{Sized, Counted, Offsets};
+ghost use Rattle.type_record.specs.Sizes.{Sized, Counted, Offsets, Variant-of};
 
 pub fn wide(x: u32) -> usize
     ensures { λ r. ⌜ r ≡ x ⌝ }
@@ -46,7 +46,7 @@ pub fn owner_of(types: &[u32], offs: &[u32], t: usize, v: usize) -> usize
     requires { ⌜ Counted (now types) ⌝ }
     requires { ⌜ Offsets (now types) (now offs) ⌝ }
     requires { ⌜ t < ntypes (now types) ⌝ }
-    requires { ⌜ (kind (now types) t ≡ 7 → v < count (now types) t) ⌝ }
+    requires { ⌜ Variant-of (now types) t v ⌝ }
     ensures { λ r. ⌜ r ≡ owner (now (types .entry)) t v ⌝ }
 {
     if kind_of(types, t) == 7 {
@@ -70,7 +70,7 @@ pub fn kid_count(types: &[u32], offs: &[u32], t: usize, v: usize) -> usize
     requires { ⌜ types-ok (now types) ≡ true ⌝ }
     requires { ⌜ Offsets (now types) (now offs) ⌝ }
     requires { ⌜ t < ntypes (now types) ⌝ }
-    requires { ⌜ (kind (now types) t ≡ 7 → v < count (now types) t) ⌝ }
+    requires { ⌜ Variant-of (now types) t v ⌝ }
     ensures { λ r. ⌜ r ≡ length (kids (now (types .entry)) t v) ⌝ }
 {
     let u = owner_of(types, offs, t, v);
@@ -83,7 +83,7 @@ pub fn kid_type(types: &[u32], offs: &[u32], t: usize, v: usize, i: usize) -> us
     requires { ⌜ types-ok (now types) ≡ true ⌝ }
     requires { ⌜ Offsets (now types) (now offs) ⌝ }
     requires { ⌜ t < ntypes (now types) ⌝ }
-    requires { ⌜ (kind (now types) t ≡ 7 → v < count (now types) t) ⌝ }
+    requires { ⌜ Variant-of (now types) t v ⌝ }
     requires { ⌜ i < length (kids (now types) t v) ⌝ }
     ensures { λ r. ⌜ r ≡ getD (kids (now (types .entry)) t v) i 0 ⌝ }
 {

@@ -1,8 +1,8 @@
 // Every call over stored cases, a case to a line of `stdin` and its answer to a line of `stdout`: the refusal or 0 and what the call answers, then
 // behind bars what it leaves in states and lent arrays, without the zeros at their end.
-ghost use mathlib.Core.Path.{_≡_};
 ghost use Prim.Native.Nat.{_≤_};
 ghost use lib.ListN.{length};
+ghost use Rattle.stream.specs.Filled.{Filled};
 
 mod checks;
 mod lists;
@@ -39,7 +39,7 @@ fn answer(words: &[u32]) {
 // A byte more; at the end of a line its case is answered.
 fn next(r: Reader, c: u8, words: &mut [u32]) -> Reader
     requires { ⌜ r .total ≤ length (now words) ⌝ }
-    ensures { λ s. ⌜ (s .total ≤ length (now (words .exit))) × (length (now (words .exit)) ≡ length (now (words .entry))) ⌝ }
+    ensures { λ s. ⌜ Filled (now (words .entry)) (s .total) (now (words .exit)) ⌝ }
 {
     if c != 10 {
         return step(r, c, words);
@@ -52,7 +52,7 @@ fn next(r: Reader, c: u8, words: &mut [u32]) -> Reader
 
 fn feed(r: Reader, text: &[u8], words: &mut [u32]) -> Reader
     requires { ⌜ r .total ≤ length (now words) ⌝ }
-    ensures { λ s. ⌜ (s .total ≤ length (now (words .exit))) × (length (now (words .exit)) ≡ length (now (words .entry))) ⌝ }
+    ensures { λ s. ⌜ Filled (now (words .entry)) (s .total) (now (words .exit)) ⌝ }
 {
     let n = text.len();
     let mut s = r;
@@ -72,7 +72,7 @@ struct More {
 
 fn read_some(r: Reader, words: &mut [u32]) -> More
     requires { ⌜ r .total ≤ length (now words) ⌝ }
-    ensures { λ m. ⌜ (m .reader .total ≤ length (now (words .exit))) × (length (now (words .exit)) ≡ length (now (words .entry))) ⌝ }
+    ensures { λ m. ⌜ Filled (now (words .entry)) (m .reader .total) (now (words .exit)) ⌝ }
 {
     let mut buf = [0u8; 4096];
     let got = libc::read(STDIN_FILENO, &mut buf);

@@ -27,3 +27,7 @@ pub record Leaps (Γ fn : List ℕ) (j : Jump) : Type 0 where
   pub way : Fuel.Way (frame Γ fn) from before
   pub aims : Has (j .item, j .block) (targets fn from)
   pub rest : left (nblocks fn) (from ∷ before) ≤ j .left
+
+-- there is a first item, and a start block
+abbrev pub Beginning : List ℕ → Type 0
+Beginning fn = (0 < nitems fn) × (0 < nblocks fn)

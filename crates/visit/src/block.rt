@@ -7,7 +7,7 @@ ghost use Rattle.state.specs.Value.{state-in};
 ghost use Rattle.statements.specs.Kept.{Counted};
 ghost use Rattle.state.specs.Given.{Accepted, Stated};
 ghost use Rattle.arrival.specs.Shares.{arrays-in, change, Shared};
-ghost use Rattle.visit.specs.Ways.{Come, Leaps};
+ghost use Rattle.visit.specs.Ways.{Come, Leaps, Beginning};
 ghost use Rattle.arrival.specs.Visits.{Ongoing};
 ghost use Rattle.visit.specs.Visits.{jumping, entering, departing, Returns, Jumps, Enters, Departs, start-jump};
 use arrival::jump::Jump;
@@ -272,7 +272,7 @@ pub fn begin(
     requires { ⌜ Accepted (now types) (now offs) (now fun) ⌝ }
     requires { ⌜ Shared (now fun) (now points) ⌝ }
     requires { ⌜ Ongoing (now types) (now fun) (arrays-in (now memo) (now waits) (now forms) (now whats)) (now out) o s (jumping (now types) (now fun) (start-jump (now fun))) ⌝ }
-    requires { ⌜ (0 < nitems (now fun)) × (0 < nblocks (now fun)) ⌝ }
+    requires { ⌜ Beginning (now fun) ⌝ }
     ensures { λ r. ⌜ Jumps (was types) (was fun) (change memo waits forms whats) out (start-jump (was fun)) s o r ⌝ }
 {
     let n = nblocks(fun);

@@ -1,9 +1,10 @@
 // The walk: through open nodes up to the first folded one that must open, then by types alone. So 5, 6 and 7 come before
 // 9, and 9 is known before anything is written.
 ghost use mathlib.Core.Path.{_≡_};
-ghost use Prim.Native.Nat.{_<_, _≤_};
+ghost use Prim.Native.Nat.{_<_};
 ghost use Rattle.moments.specs.Lent.{was};
 ghost use Rattle.model.specs.Types.{ntypes};
+ghost use Rattle.base.specs.Ranges.{Range};
 ghost use Rattle.records.specs.Here.{Here};
 ghost use Rattle.type_record.specs.Sizes.{Ready};
 ghost use Rattle.walk.specs.Site.{Short, extent, onward, Passes-at, Walks-at, refusal-of};
@@ -117,7 +118,7 @@ fn pass_folded(
     requires { ⌜ Ready (now types) (now offs) ⌝ }
     requires { ⌜ typ < ntypes (now types) ⌝ }
     requires { ⌜ Short (now ops) (now args) ⌝ }
-    requires { ⌜ (1 ≤ from) × (from ≤ extent (now ops) (now args)) ⌝ }
+    requires { ⌜ Range 1 from (extent (now ops) (now args)) ⌝ }
     ensures { λ r. ⌜ r ≡ onward (was types) (was ops) (was args) from typ ⌝ }
 {
     let n = ops.len();

@@ -2,10 +2,10 @@
 ghost use mathlib.Core.Path.{_≡_};
 ghost use mathlib.Core.Bool.{true};
 ghost use Prim.Native.Nat.{_-_, _<_};
-ghost use lib.ListN.{length};
 ghost use Rattle.moments.specs.Lent.{was, after};
 ghost use Rattle.model.specs.Types.{ntypes};
 ghost use Rattle.model.specs.Block.{elem-of};
+ghost use Rattle.base.specs.Ranges.{Both-have};
 ghost use Rattle.laws.specs.Places.{no-index};
 ghost use Rattle.type_record.specs.Sizes.{Sized, Ready};
 ghost use Rattle.state.specs.Value.{state-in};
@@ -62,7 +62,7 @@ fn write_open(
     requires { ⌜ Sized (now types) ⌝ }
     requires { ⌜ f .typ < ntypes (now types) ⌝ }
     requires { ⌜ variant (elem-of op arg) < 65536 ⌝ }
-    requires { ⌜ (i < length (now forms)) × (i < length (now whats)) ⌝ }
+    requires { ⌜ Both-have i (now forms) (now whats) ⌝ }
     ensures { λ r. ⌜ Marks (was types) f (elem-of op arg) i (was forms) (was whats) (after forms) (after whats) ⌝ }
 {
     if f.opened {

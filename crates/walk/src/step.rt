@@ -4,11 +4,12 @@ ghost use mathlib.Core.Bool.{true};
 ghost use Prim.Native.Nat.{_<_};
 ghost use lib.ListN.{length, getD};
 ghost use Rattle.moments.specs.Lent.{was};
-ghost use Rattle.model.specs.Types.{ntypes, kind, count, kids};
+ghost use Rattle.model.specs.Types.{ntypes, kids};
 ghost use Rattle.model.specs.Place.{index};
 ghost use Rattle.model.specs.Block.{elem-of};
 ghost use Rattle.records.specs.Here.{Here};
-ghost use Rattle.type_record.specs.Sizes.{Ready};
+ghost use Rattle.type_record.specs.Sizes.{Ready, Variant-of};
+ghost use Rattle.state.specs.Found.{Open-at};
 ghost use Rattle.walk.specs.Way.{Steps-at};
 ghost use Rattle.walk.specs.Fresh.{folded, Bud, grows-open, grows-folded, grows};
 ghost use Rattle.walk.specs.declared.step.Opened.the-variants.{To};
@@ -51,7 +52,7 @@ pub fn step_open<'a>(
     requires { ⌜ Ready (now types) (now offs) ⌝ }
     requires { ⌜ typ < ntypes (now types) ⌝ }
     requires { ⌜ Here (now types) (now forms) (now whats) node typ ⌝ }
-    requires { ⌜ (getD (now forms) node 0 ≡ 0 → ⊥) ⌝ }
+    requires { ⌜ Open-at (now forms) node ⌝ }
     ensures { λ r. ⌜ Steps-at (was types) (was forms) (was whats) node typ (elem-of op arg) r ⌝ }
 {
     let k = kind_of(types, typ);
@@ -115,7 +116,7 @@ pub enum Opened {
 fn into_child(types: &[u32], offs: &[u32], typ: usize, v: usize, i: usize, added: usize) -> Opened
     requires { ⌜ Ready (now types) (now offs) ⌝ }
     requires { ⌜ typ < ntypes (now types) ⌝ }
-    requires { ⌜ (kind (now types) typ ≡ 7 → v < count (now types) typ) ⌝ }
+    requires { ⌜ Variant-of (now types) typ v ⌝ }
     requires { ⌜ i < length (kids (now types) typ v) ⌝ }
     ensures { λ r. ⌜ r ≡ To (folded (getD (kids (was types) typ v) i 0) added) ⌝ }
 {
