@@ -4,13 +4,13 @@ use mathlib.Core.Bool.{Bool, true, false, cond}
 use mathlib.Core.List.{List, [], _∷_}
 use mathlib.Core.Option.{Option, none, some}
 use Prim.Native.Nat.{ℕ, suc, _+_, _-_, _<_, _≤_}
+use lib.ListN.{length, getD}
 use lib.Dec.{eqb}
 use Rattle.model.specs.Words.{count-below, collect-from}
 use Rattle.model.specs.Function.{start, stop, op, arg, nblocks, nitems}
 use Rattle.model.specs.Block.{spot-before, root-before, uses-place, is-join-point, latest-note}
 use Rattle.blocks.specs.declared.matching.Item.{Item}
 use Rattle.blocks.specs.declared.matching.Item.the-variants.{At, Nowhere}
-use lib.ListN.{length, getD}
 
 -- all are 0
 abbrev pub Zeros : List ℕ → Type 0
@@ -50,17 +50,9 @@ abbrev pub item-of : Option ℕ → Item
 item-of none = Nowhere
 item-of (some i) = At i
 
--- s is an item, at lo or behind it
-abbrev pub Between : List ℕ → ℕ → ℕ → Type 0
-Between fn lo s = (lo ≤ s) × (s < nitems fn)
-
--- i and j are items
-abbrev pub Two-items : List ℕ → ℕ → ℕ → Type 0
-Two-items fn i j = (i < nitems fn) × (j < nitems fn)
-
--- both use a place
-abbrev pub Two-places : List ℕ → ℕ → ℕ → Type 0
-Two-places fn i j = (uses-place fn i ≡ true) × (uses-place fn j ≡ true)
+-- i is an item that uses a place
+abbrev pub Used-at : List ℕ → ℕ → Type 0
+Used-at fn i = (i < nitems fn) × (uses-place fn i ≡ true)
 
 -- n items stand from a on, and from b on
 abbrev pub Two-runs : List ℕ → ℕ → ℕ → ℕ → Type 0

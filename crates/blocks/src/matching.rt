@@ -1,12 +1,12 @@
 // Which place a switch matches on: the place read before the latest note of the switch's place in the block.
 ghost use mathlib.Core.Path.{_≡_};
 ghost use mathlib.Core.Bool.{true};
-ghost use Prim.Native.Nat.{_+_, _-_, _<_};
+ghost use Prim.Native.Nat.{_+_, _-_, _<_, _≤_};
 ghost use Rattle.model.specs.Place.{same-spot};
 ghost use Rattle.model.specs.Function.{nblocks};
-ghost use Rattle.model.specs.Block.{root-before, spot-before, uses-place, latest-note};
+ghost use Rattle.model.specs.Block.{root-before, spot-before, latest-note};
 ghost use Rattle.mir.specs.Sizes.{Laid, Formed};
-ghost use Rattle.blocks.specs.Points.{matched-read, switch-item, item-of, Tells-same, Two-runs, Two-items, Two-places, Between};
+ghost use Rattle.blocks.specs.Points.{matched-read, switch-item, item-of, Tells-same, Two-runs, Used-at};
 use crate::place::root_before;
 use crate::place::uses_place;
 use mir::function::arg_of;
@@ -42,8 +42,8 @@ fn same_items(fun: &[u32], a: usize, b: usize, n: usize) -> bool
 // Are the places that end before items i and j the same? root: the second's.
 fn same_place(fun: &[u32], i: usize, root: usize, j: usize) -> bool
     requires { ⌜ Formed (now fun) ⌝ }
-    requires { ⌜ Two-items (now fun) i j ⌝ }
-    requires { ⌜ Two-places (now fun) i j ⌝ }
+    requires { ⌜ Used-at (now fun) i ⌝ }
+    requires { ⌜ Used-at (now fun) j ⌝ }
     requires { ⌜ root ≡ root-before (now fun) j ⌝ }
     ensures { λ r. ⌜ r ≡ same-spot (spot-before (now (fun .entry)) i) (spot-before (now (fun .entry)) j) ⌝ }
 {
@@ -57,8 +57,8 @@ fn same_place(fun: &[u32], i: usize, root: usize, j: usize) -> bool
 // The latest note of the place that ends before s, among the items of the block from lo on.
 fn latest_note(fun: &[u32], lo: usize, s: usize) -> Item
     requires { ⌜ Formed (now fun) ⌝ }
-    requires { ⌜ Between (now fun) lo s ⌝ }
-    requires { ⌜ uses-place (now fun) s ≡ true ⌝ }
+    requires { ⌜ lo ≤ s ⌝ }
+    requires { ⌜ Used-at (now fun) s ⌝ }
     ensures { λ r. ⌜ r ≡ item-of (latest-note (now (fun .entry)) (spot-before (now (fun .entry)) s) lo (s - lo)) ⌝ }
 {
     let root = root_before(fun, s);

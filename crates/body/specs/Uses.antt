@@ -23,10 +23,6 @@ use Rattle.state.specs.Given.{In-each}
 
 -- THE ITEMS
 
--- i is an item that uses a place
-abbrev pub Used-at : List ℕ → ℕ → Type 0
-Used-at fn i = (i < nitems fn) × (uses-place fn i ≡ true)
-
 -- i is an item with another before it
 abbrev pub Preceded : List ℕ → ℕ → Type 0
 Preceded fn i = (0 < i) × (i < nitems fn)

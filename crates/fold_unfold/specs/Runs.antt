@@ -6,11 +6,11 @@ use mathlib.Core.List.{List, [], _∷_, _++_}
 use mathlib.Core.Option.{Option, none, some}
 use Prim.Native.Nat.{ℕ, _<_, _*_, _≤_}
 use lib.ListN.{length, replicate}
-use Rattle.model.specs.State.{most}
 use Rattle.moments.specs.Lent.{Lent, was, after}
 use Rattle.model.specs.Words.{word}
 use Rattle.model.specs.Answer.{Answer, refused, done, _>>=_}
 use Rattle.model.specs.Tree.{Forest, leaves}
+use Rattle.model.specs.State.{most}
 use Rattle.model.specs.Place.{At}
 use Rattle.model.specs.Function.{nblocks, rank, local-types}
 use Rattle.model.specs.Block.{entry-uses, entry-point, join-points}

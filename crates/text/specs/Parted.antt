@@ -3,8 +3,8 @@ use mathlib.Core.Path.{_≡_}
 use mathlib.Core.List.{List}
 use Prim.Native.Nat.{ℕ, _≤_, _^_, _<_}
 use lib.ListN.{length, take, drop}
-use Rattle.model.specs.Ghosts.{types-length, function-words}
 use Rattle.model.specs.Words.{word}
+use Rattle.model.specs.Ghosts.{types-length, function-words}
 
 -- r is word i, or 0 past the end, as a number of 32 bits
 abbrev pub Word-at : List ℕ → ℕ → ℕ → Type 0

@@ -1,10 +1,10 @@
 -- The sizes of a type record, and the offsets of a type record's parts in a lent array.
 use mathlib.Core.Path.{_≡_}
-use mathlib.Core.Bool.{true, Bool}
+use mathlib.Core.Bool.{Bool, true}
 use mathlib.Core.List.{List}
 use Prim.Native.Nat.{ℕ, _+_, _≤_, _<_}
 use lib.ListN.{length, getD}
-use Rattle.model.specs.Types.{ntypes, nparts, offset, types-ok, kind, count, part}
+use Rattle.model.specs.Types.{ntypes, nparts, offset, types-ok, kind, count}
 
 -- a type record as long as its sizes say
 pub record Sized (Γ : List ℕ) : Type 0 where
@@ -39,7 +39,3 @@ Is-enum Γ t = (t < ntypes Γ) × (kind Γ t ≡ 7)
 -- if it is one, v is a variant of it
 abbrev pub Variant-of : List ℕ → ℕ → ℕ → Type 0
 Variant-of Γ t v = kind Γ t ≡ 7 → v < count Γ t
-
--- its part j is a variant, and an earlier type
-abbrev pub Variant-part : List ℕ → ℕ → ℕ → Type 0
-Variant-part Γ t j = (part Γ t j < t) × (kind Γ (part Γ t j) ≡ 8)

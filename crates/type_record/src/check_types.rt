@@ -5,7 +5,8 @@ ghost use Prim.Native.Nat.{_<_, _≤_};
 ghost use lib.ListN.{length, drop};
 ghost use Rattle.model.specs.Words.{all};
 ghost use Rattle.model.specs.Types.{ntypes, count, type-sizes, counts-add, field-ok, fields-ok, pointee-ok, variant-ok, variants-ok, type-ok, all-types-ok, types-ok};
-ghost use Rattle.type_record.specs.Sizes.{Sized, Counted, Offsets, Fills, Variant-part};
+ghost use Rattle.base.specs.Typed.{Variant};
+ghost use Rattle.type_record.specs.Sizes.{Sized, Counted, Offsets, Fills};
 ghost use Rattle.type_record.specs.Fresh.{value-fresh};
 use crate::record::count_of;
 use crate::record::discriminant;
@@ -118,7 +119,7 @@ fn value_fresh(types: &[u32], offs: &[u32], t: usize, j: usize) -> bool
     requires { ⌜ all (type-ok (now types)) t ≡ true ⌝ }
     requires { ⌜ j < count (now types) t ⌝ }
     requires { ⌜ all (variant-ok (now types) t) j ≡ true ⌝ }
-    requires { ⌜ Variant-part (now types) t j ⌝ }
+    requires { ⌜ Variant (now types) t j ⌝ }
     ensures { λ r. ⌜ r ≡ value-fresh (now (types .entry)) t j ⌝ }
 {
     let d = discriminant(types, offs, t, j);

@@ -81,7 +81,7 @@ same-place-requires c κs =
     let s = start in
     let L = loop′ .loop in
     let l : L .j - 1 < nitems (s .args .fun .now) = omega arith in
-    (s .pre .0, ((l, s .pre .1 .0 .1), ((note-uses (s .pre .0) l (sym (c .before .op-of .ensures) ∙ c .if1 .taken), s .pre .1 .1), root-before′ .root-before .ensures)))
+    (s .pre .0, ((l, note-uses (s .pre .0) l (sym (c .before .op-of .ensures) ∙ c .if1 .taken)), (s .pre .1 .1, root-before′ .root-before .ensures)))
 
 -- the test of the item before j
 judged : (c : tie.After-same-place Inv-loop μ-loop)

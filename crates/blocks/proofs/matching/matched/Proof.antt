@@ -112,7 +112,7 @@ latest-note-requires : tie.Need-latest-note-requires
 latest-note-requires c κs =
     let known-told : tie.After-known-told = search in
     let S = switched (known-told) in
-    (S .formed, ((omega (arith, c .start-of .ensures, holds S .low), below S), used (c .before)))
+    (S .formed, (omega (arith, c .start-of .ensures, holds S .low), (below S, used (c .before))))
 
 enum-known-noted : tie.Need-enum-known-noted
 enum-known-noted c = search needs

@@ -38,21 +38,21 @@ sub-if1 c =
     let start : tie.Start = search in
     let p = start .pre in
     let g = c .root-before in
-    omega (arith, low (p .0) _ _ (g .result) _ (p .1 .0) (p .1 .1 .0) (g .ensures) (p .1 .1 .1))
+    omega (arith, low (p .0) _ _ (g .result) _ (p .1 .0 .0, p .1 .1 .0 .0) (p .1 .0 .1, p .1 .1 .0 .1) (g .ensures) (p .1 .1 .1))
 
 sub-if1-2 : tie.Need-sub-if1-2
 sub-if1-2 c =
     let start : tie.Start = search in
     let p = start .pre in
     let g = c .root-before in
-    omega (arith, low-2 (p .0) _ _ (g .result) _ (p .1 .0) (p .1 .1 .0) (g .ensures) (p .1 .1 .1))
+    omega (arith, low-2 (p .0) _ _ (g .result) _ (p .1 .0 .0, p .1 .1 .0 .0) (p .1 .0 .1, p .1 .1 .0 .1) (g .ensures) (p .1 .1 .1))
 
 returns : tie.Need-returns
 returns c =
     let start : tie.Start = search in
     let p = start .pre in
     let g = c .before .root-before in
-    uneven (p .0) _ _ (g .result) _ (p .1 .0) (p .1 .1 .0) (g .ensures) (p .1 .1 .1) (c .if1 .taken)
+    uneven (p .0) _ _ (g .result) _ (p .1 .0 .0, p .1 .1 .0 .0) (p .1 .0 .1, p .1 .1 .0 .1) (g .ensures) (p .1 .1 .1) (c .if1 .taken)
 
 sub-same-items : tie.Need-sub-same-items
 sub-same-items c = sub-if1-2 (c .before)
@@ -60,7 +60,7 @@ sub-same-items c = sub-if1-2 (c .before)
 same-items-requires : tie.Need-same-items-requires
 same-items-requires c κs =
     let start : tie.Start = search in
-    (start .pre .0 .laid, omega (arith, sub-if1 (c .before), sub-if1-2 (c .before), c .if1 .left, start .pre .1 .0))
+    (start .pre .0 .laid, omega (arith, sub-if1 (c .before), sub-if1-2 (c .before), c .if1 .left, start .pre .1 .0 .0, start .pre .1 .1 .0 .0))
 
 returns-2 : tie.Need-returns-2
 returns-2 c =
@@ -68,7 +68,7 @@ returns-2 c =
     let start : tie.Start = search in
     let p = start .pre in
     let g = root-before′ .root-before in
-    decided (p .0) _ _ (g .result) _ (p .1 .0) (p .1 .1 .0) (g .ensures) (p .1 .1 .1) (c .before .if1 .left) (c .same-items .result) (c .same-items .ensures)
+    decided (p .0) _ _ (g .result) _ (p .1 .0 .0, p .1 .1 .0 .0) (p .1 .0 .1, p .1 .1 .0 .1) (g .ensures) (p .1 .1 .1) (c .before .if1 .left) (c .same-items .result) (c .same-items .ensures)
 
 pub same-place-spec : {M : Type 1} → statement M
 same-place-spec = tie.close (tie.spec root-before-requires sub-if1 sub-if1-2 returns sub-same-items same-items-requires returns-2)

@@ -41,7 +41,7 @@ discriminant-requires : tie.Need-discriminant-requires Inv-loop μ-loop
 discriminant-requires c κs =
     let start : tie.Start Inv-loop μ-loop = search in
     let p = start .pre in
-    (p .0, (p .1 .0, (p .1 .1 .0, (p .1 .1 .1 .1 .0, variant-room _ _ _ (p .1 .1 .1 .0) (p .1 .1 .0) (p .1 .1 .1 .1 .1 .1)))))
+    (p .0, (p .1 .0, (p .1 .1 .0, (p .1 .1 .1 .1 .0, variant-room _ _ _ (p .1 .1 .1 .0) (p .1 .1 .0) (p .1 .1 .1 .1 .1 .1 .below, p .1 .1 .1 .1 .1 .1 .is-variant)))))
 
 loop-holds : tie.Need-loop-holds Inv-loop μ-loop
 loop-holds c = (omega arith, all-none _)

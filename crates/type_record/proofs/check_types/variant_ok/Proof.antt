@@ -52,7 +52,7 @@ value-fresh-requires c κs =
     let p = a .before .before .before .before .pre in
     let q = p .1 .1 .1 in
     let v = variant _ _ _ _ (a .before .part-at .ensures) (a .if1 .left) _ (c .before .kind-of .ensures) (c .if2 .left) in
-    (p .0, (p .1 .0, (p .1 .1 .0, (q .0, (q .1 .0, (q .1 .1, v))))))
+    (p .0, (p .1 .0, (p .1 .1 .0, (q .0, (q .1 .0, (q .1 .1, record { below = v .0; is-variant = v .1 }))))))
 
 returns-3 : tie.Need-returns-3
 returns-3 c =
