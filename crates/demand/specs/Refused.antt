@@ -18,7 +18,7 @@ use Rattle.model.specs.Function.{nlocals, nblocks, local-types, function-ok}
 use Rattle.model.specs.Block.{Station, targets, matched, is-arm, arm-value, places-ok, entry-point, join-points}
 use Rattle.model.specs.Rounds.{elem}
 use Rattle.model.specs.Passes.{Found}
-use Rattle.model.specs.Body.{enter-uses, use-at, pass-stations, Left, variants, variant-of, choice, open-variant, match-targets, exits-of, body, frame}
+use Rattle.model.specs.Body.{enter-uses, use-at, pass-stations, Left, variants, variant-of, choice, open-variant, match-targets, match-exits, exits-of, body, frame}
 use Rattle.model.specs.Record.{entries, writable}
 use Rattle.model.specs.Whole.{passes, ghost-statements, with-buffer, accepted, denied, result, shorter, found, whole}
 use Rattle.model.specs.Ghosts.{fresh, close, scan, backwards, words-of, types-length, function-length, function-words, ghosts-store, ghosts-buffer, analysed, answer-text, printed, ghosts}
@@ -27,7 +27,7 @@ use Rattle.base.specs.Tests.{split, split-option, clash}
 use Rattle.base.specs.Each.{Each, each-none, each-more}
 use Rattle.base.specs.Function.{length-local-types}
 use Rattle.laws.specs.Places.{used-limits}
-use Rattle.laws.specs.Refusals.{Only, only-refused, only-done, only-then, only-bind, only-require, only-more, only-at, only-of, projection-refusals, downcasting-refusals, enum-refusals}
+use Rattle.laws.specs.Refusals.{Only, only-refused, only-done, only-then, only-bind, only-require, only-more, only-at, only-of, projection-refusals, downcasting-refusals, subject-refusals}
 use Rattle.solver.specs.Laws.{Good}
 use Rattle.solver.specs.Refusals.{analyse-refused}
 use Rattle.graph.specs.Targets.{frame-edges}
@@ -97,11 +97,16 @@ module _ {Γ fn : List ℕ} (H : Passed Γ fn) where
   match-refuses q E (t ∷ ts) ds = only-bind (choice-refuses (t .0) ds)
       (λ c. only-bind (variant-refuses q (c .opens) E) (λ D. only-bind (match-refuses q E ts (c .remain)) (λ xs. only-done)))
 
+  match-exits-refuse : (q : Spot) (ts : List (ℕ × ℕ)) (E : Forest) (o : Option ℕ) → Only run-numbers (match-exits Γ fn q ts E o)
+  unfolding match-exits
+  match-exits-refuse q ts E none = only-done
+  match-exits-refuse q ts E (some t) = match-refuses q E ts (variants Γ t)
+
   -- the exits of a block
   exits-refuse : (m : Option Spot) (ts : List (ℕ × ℕ)) (E : Forest) → Only run-numbers (exits-of Γ fn m ts E)
   unfolding exits-of elem
   exits-refuse none ts E = only-done
-  exits-refuse (some q) ts E = only-bind (only-more refl (enum-refusals Γ q E)) (λ t. match-refuses q E ts (variants Γ t))
+  exits-refuse (some q) ts E = only-bind (only-more refl (subject-refusals Γ q E)) (match-exits-refuse q ts E)
 
   -- THE RUN
 

@@ -1,6 +1,6 @@
 -- A block is left as its own run says: a target's own unfolding, done by the replay, gives the state of the exit by that target; and
 -- the states of the exits stay good.
-use mathlib.Core.Path.{_≡_, refl, subst}
+use mathlib.Core.Path.{_≡_, refl, sym, _∙_, subst}
 use mathlib.Core.Bool.{true, false}
 use mathlib.Core.List.{List, [], _∷_, map}
 use mathlib.Core.Option.{Option, none, some}
@@ -8,20 +8,27 @@ use Prim.Native.Nat.{ℕ}
 use lib.Dec.{eqb}
 use Rattle.model.specs.Answer.{done, _>>=_}
 use Rattle.model.specs.Tree.{Forest}
-use Rattle.model.specs.Place.{Spot, used-ok}
+use Rattle.model.specs.Place.{Spot, no-index, used-ok}
 use Rattle.model.specs.Walk.{enum-at}
 use Rattle.model.specs.Function.{nlocals}
 use Rattle.model.specs.Frame.{Exit}
-use Rattle.model.specs.Body.{Left, variants, Choice, choice, open-variant, match-targets, exits-of, frame}
+use Rattle.model.specs.Body.{Left, variants, Choice, choice, open-variant, match-targets, unopened, exits-of, frame}
 use Rattle.model.specs.Replay.{opens-at, cast-maybe, own}
-use Rattle.base.specs.Tests.{eqb-same, eqb-sym}
-use Rattle.base.specs.Answer.{then-done}
+use Rattle.base.specs.Tests.{eqb-same, eqb-sym, split, clash}
+use Rattle.base.specs.Answer.{then-done, split-answer}
 use Rattle.base.specs.Each.{Each, each-none, each-more, each-same, each-both}
 use Rattle.solver.specs.Lists.{each-apart, Once, once-head, once-tail}
 use Rattle.solver.specs.Laws.{Good}
 use Rattle.solver.specs.Canon.{exit-items}
 use Rattle.graph.specs.Points.{match-listed}
+use Rattle.graph.specs.Elements.{first-walk, element-exits, element-refused, element-own, enum-exits}
 use Rattle.graph.specs.Trees.{small-good, Trees}
+
+-- what holds of every exit in the state as it is
+unopened-each : (P : Exit Forest → Type 0) (E : Forest) → ((t : ℕ × ℕ) → P (record { item = t .0; block = t .1; state = E })) → (ts : List (ℕ × ℕ)) → Each P (unopened ts E)
+unfolding unopened
+unopened-each P E f [] = each-none
+unopened-each P E f (t ∷ ts) = each-more (f t) (unopened-each P E f ts)
 
 module _ (Γ fn : List ℕ) {Ok : Forest → Type 0} (T : Trees Γ fn Ok) where
   -- a state of the run
@@ -77,12 +84,14 @@ module _ (Γ fn : List ℕ) {Ok : Forest → Type 0} (T : Trees Γ fn Ok) where
       → Once (map (λ t. t .0) ts) → Fair E → exits-of Γ fn m ts E ≡ done xs → Each (Departs m ts E) xs
   unfolding exits-of own
   exits-depart none a ts E {xs} o F e =
-      let z : map (λ t. record { item = t .0; block = t .1; state = E }) ts ≡ xs = cc in
-      subst (Each (Departs none ts E)) z (go ts)
-    where
-      go : (us : List (ℕ × ℕ)) → Each (Departs none ts E) (map (λ t. record { item = t .0; block = t .1; state = E }) us)
-      go [] = each-none
-      go (u ∷ us) = each-more (refl, F) (go us)
-  exits-depart (some q) a ts E {xs} o F e =
-      let (t, u, d) = then-done (enum-at Γ q E) e in
-      each-same (λ x M. (cc (M .0), M .1)) (match-departs q E (a q refl) F ts (variants Γ t) o d)
+      let z : unopened ts E ≡ xs = cc in
+      subst (Each (Departs none ts E)) z (unopened-each (Departs none ts E) E (λ u. (refl, F)) ts)
+  exits-depart (some q) a ts E {xs} o F e = split (no-index (q .place))
+      (λ i.
+      let (t, v, w) = then-done (enum-at Γ q E) (sym (enum-exits Γ fn q ts E i) ∙ e) in
+      each-same (λ x M. (cc (M .0), M .1)) (match-departs q E (a q refl) F ts (variants Γ t) o w))
+      (λ i. split-answer (first-walk Γ q E)
+      (λ n r. clash (cc (element-refused Γ fn q ts E i r)))
+      (λ D r.
+      let z : unopened ts E ≡ xs = cc (element-exits Γ fn q ts E i r) in
+      subst (Each (Departs (some q) ts E)) z (unopened-each (Departs (some q) ts E) E (λ u. (element-own Γ fn q ts E i (u .0), F)) ts)))

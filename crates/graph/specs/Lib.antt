@@ -19,6 +19,8 @@ pub mod Grammar
 pub mod Targets
 -- a block's run leaves by its targets, and records at its own points: frame-listed, frame-points
 pub mod Points
+-- a match on an array's element, and on any other place: element-exits, element-own; enum-exits, enum-own
+pub mod Elements
 -- every place used has passed refusal 4: stations-used, matched-used, entry-used
 pub mod Used
 -- THE REPLAY OF A BLOCK

@@ -11,11 +11,11 @@ use borrow.Author.Tests.{ltb-true, ne-eqb}
 use Rattle.model.specs.Answer.{done}
 use Rattle.model.specs.Tree.{Forest}
 use Rattle.model.specs.Place.{Spot, At}
-use Rattle.model.specs.Walk.{projection, enum-at}
+use Rattle.model.specs.Walk.{projection, subject-at}
 use Rattle.model.specs.Function.{nblocks, start, stop, op}
 use Rattle.model.specs.Block.{Station, is-station, station, stations, targets, returns, matched}
 use Rattle.model.specs.Frame.{Line, mark, Exit, Work, target}
-use Rattle.model.specs.Body.{use-at, pass-stations, Left, variants, choice, open-variant, match-targets, exits-of, ret-lines, body, frame}
+use Rattle.model.specs.Body.{use-at, pass-stations, Left, variants, choice, open-variant, match-targets, unopened, match-exits, exits-of, ret-lines, body, frame}
 use Rattle.base.specs.Tests.{split, clash}
 use Rattle.base.specs.Answer.{then-done}
 use Rattle.base.specs.Each.{Each, each-none, each-more, each-append, each-same}
@@ -29,6 +29,12 @@ use Rattle.graph.specs.Targets.{target-aims, targets-once}
 
 -- THE EXITS
 
+-- where the state is left as it is
+unopened-listed : (ts : List (ℕ × ℕ)) (E : Forest) → map target (unopened ts E) ≡ ts
+unfolding unopened
+unopened-listed [] E = refl
+unopened-listed (t ∷ ts) E = ap (λ l. t ∷ l) (unopened-listed ts E)
+
 module _ (Γ fn : List ℕ) where
   -- of a match
   pub match-listed : (q : Spot) (E : Forest) (ts : List (ℕ × ℕ)) (ds : Left) {xs : List (Exit Forest)} → match-targets Γ fn q E ts ds ≡ done xs → map target xs ≡ ts
@@ -41,15 +47,16 @@ module _ (Γ fn : List ℕ) where
       let z : record { item = t .0; block = t .1; state = D } ∷ ys ≡ xs = cc in
       rw (← z) (ap (λ l. t ∷ l) (match-listed q E ts (c .remain) w))
 
+  match-exits-listed : (q : Spot) (ts : List (ℕ × ℕ)) (E : Forest) (o : Option ℕ) {xs : List (Exit Forest)} → match-exits Γ fn q ts E o ≡ done xs → map target xs ≡ ts
+  unfolding match-exits
+  match-exits-listed q ts E none {xs} e = let z : unopened ts E ≡ xs = cc in rw (← z) (unopened-listed ts E)
+  match-exits-listed q ts E (some t) e = match-listed q E ts (variants Γ t) e
+
   -- the exits are the targets, in order
   pub exits-listed : (m : Option Spot) (ts : List (ℕ × ℕ)) (E : Forest) {xs : List (Exit Forest)} → exits-of Γ fn m ts E ≡ done xs → map target xs ≡ ts
   unfolding exits-of
-  exits-listed none ts E {xs} e = let z : map (λ t. record { item = t .0; block = t .1; state = E }) ts ≡ xs = cc in rw (← z) (go ts)
-    where
-      go : (ts : List (ℕ × ℕ)) → map (target {Env = Forest}) (map (λ t. record { item = t .0; block = t .1; state = E }) ts) ≡ ts
-      go [] = refl
-      go (t ∷ ts) = ap (λ l. t ∷ l) (go ts)
-  exits-listed (some q) ts E e = let (t, u, d) = then-done (enum-at Γ q E) e in match-listed q E ts (variants Γ t) d
+  exits-listed none ts E {xs} e = let z : unopened ts E ≡ xs = cc in rw (← z) (unopened-listed ts E)
+  exits-listed (some q) ts E e = let (o, u, d) = then-done (subject-at Γ q E) e in match-exits-listed q ts E o d
 
   -- what a block's own run has done
   pub record Ran (b : ℕ) (E : Forest) (w : Work Forest At) : Type 0 where

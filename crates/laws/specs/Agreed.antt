@@ -9,11 +9,11 @@ use lib.Dec.{eqb}
 use Rattle.model.specs.Answer.{Answer, done}
 use Rattle.model.specs.Types.{casts, kids, kind}
 use Rattle.model.specs.Tree.{Tree, leaf, node, Forest, nil, more, leaves}
-use Rattle.model.specs.Place.{Elem, deref, field, downcast, index, Place, stops}
+use Rattle.model.specs.Place.{Elem, deref, field, downcast, index, Place, stops, no-index}
 use Rattle.model.specs.Walk.{nth, child, inside, opened, enter, step, walk, opening}
 use Rattle.base.specs.Tests.{split}
 use Rattle.base.specs.Answer.{bind-same, bind-done}
-use Rattle.laws.specs.Places.{no-index, ends-cast}
+use Rattle.laws.specs.Places.{ends-cast}
 
 -- two that do the same at every tree do the same at one of several
 nth-same : {f g : Tree → Answer Tree} → ((x : Tree) → f x ≡ g x) → (i : ℕ) (ns : Forest) → nth i f ns ≡ nth i g ns

@@ -10,14 +10,14 @@ use Rattle.model.specs.Answer.{done}
 use Rattle.model.specs.Types.{kids, casts, kind, pointer}
 use Rattle.model.specs.Tree.{unfolded, Tree, Forest, type, node, leaf, more, nil}
 use Rattle.model.specs.Typing.{Fit, Fits, fit-more, fit-node, fit-none, fit-leaf}
-use Rattle.model.specs.Place.{later, first, index, downcast, deref, field, Place, Spot, Statement, At}
+use Rattle.model.specs.Place.{later, first, index, downcast, deref, field, Place, Spot, Statement, At, no-index}
 use Rattle.model.specs.Walk.{walk, opened, step, pick, wide, reached, branch, projection, folding, project-at, changed, project}
 use Rattle.model.specs.Collect.{firsts, both, lift, folds-at-ret, collects, folds, foldss, collect, unfolds, folded, unfoldss}
 use Rattle.base.specs.Tests.{split, cond-split}
 use Rattle.base.specs.Answer.{good-bind, good-same, good-done, Good, good-cond, good-self, good-refused}
 use Rattle.base.specs.Each.{each-append, Each, each-more, each-map, each-none}
 use Rattle.laws.specs.Typing.{fits-leaves}
-use Rattle.laws.specs.Places.{no-index, base-no-index}
+use Rattle.laws.specs.Places.{base-no-index}
 use Rattle.laws.specs.Steps.{cast-law, index-law, step-law}
 use Rattle.laws.specs.Hops.{lift-deref, lift-cast, lift-field}
 use Rattle.laws.specs.Projected.{changed-goes}

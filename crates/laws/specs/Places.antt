@@ -2,12 +2,12 @@
 use mathlib.Core.Path.{_≡_, refl, sym, ap}
 use mathlib.Core.Bool.{Bool, true, false, cond, true≢false, _&&_}
 use mathlib.Core.List.{[], _∷_}
-use Prim.Native.Nat.{ℕ, _≤_, _<_}
+use Prim.Native.Nat.{ℕ, suc, _≤_, _<_}
 use native.Mathlib.Omega.{arith}
 use lib.ListN.{length, take}
 use lib.Dec.{ltb, leb}
 use borrow.Author.Tests.{leb-true, ltb-true, lt-ltb, le-leb}
-use Rattle.model.specs.Place.{steps, base, walked, field, deref, downcast, usable, index, Place, stops, Elem, spot-ok, used-ok, Spot, Verb, Fold, Unfold, unfold-ok, fold-ok}
+use Rattle.model.specs.Place.{steps, base, walked, field, deref, downcast, usable, index, Place, stops, Elem, spot-ok, used-ok, Spot, Verb, Fold, Unfold, unfold-ok, fold-ok, no-index}
 use Rattle.base.specs.Tests.{split, and-right, and-left, and-both}
 
 -- is there no element left?
@@ -88,13 +88,23 @@ base-steps (index ∷ p) = split (stops p) (λ d. rw d (omega arith)) (λ d. rw 
 
 -- NO INDEX
 
--- has the place no index?
-abbrev pub no-index : Place → Bool
-no-index [] = true
-no-index (deref ∷ p) = no-index p
-no-index (field i ∷ p) = no-index p
-no-index (downcast v ∷ p) = no-index p
-no-index (index ∷ p) = false
+-- all of such a place is walked
+pub walked-all : (p : Place) → no-index p ≡ true → length (walked p) ≡ length p
+unfolding walked
+walked-all [] h = refl
+walked-all (deref ∷ p) h = ap suc (walked-all p h)
+walked-all (field i ∷ p) h = ap suc (walked-all p h)
+walked-all (downcast v ∷ p) h = ap suc (walked-all p h)
+walked-all (index ∷ p) h = absurd (true≢false (sym h))
+
+-- and less of any other
+pub walked-less : (p : Place) → no-index p ≡ false → length (walked p) < length p
+unfolding walked
+walked-less [] h = absurd (true≢false h)
+walked-less (deref ∷ p) h = omega (arith, walked-less p h)
+walked-less (field i ∷ p) h = omega (arith, walked-less p h)
+walked-less (downcast v ∷ p) h = omega (arith, walked-less p h)
+walked-less (index ∷ p) h = omega arith
 
 -- of a place on which a walk makes a step, the place without its last element has none
 pub base-no-index : (p : Place) → stops p ≡ false → no-index (base p) ≡ true

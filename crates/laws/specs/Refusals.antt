@@ -14,8 +14,8 @@ use Rattle.model.specs.Types.{pointer, fielded, casts, shut, kind}
 use Rattle.model.specs.Tree.{Tree, leaf, node, Forest, nil, more, unfolded, sizes, type}
 use Rattle.model.specs.Typing.{fit-none, Fits, fit-more}
 use Rattle.model.specs.State.{most}
-use Rattle.model.specs.Place.{Elem, deref, field, downcast, index, Place, Verb, Fold, Unfold, Statement, At, Spot}
-use Rattle.model.specs.Walk.{nth, child, inside, enter, step, walk, opening, act, carry, carry-at, pick, enum-at, fitting, reached, project-at, downcasting, projection, changed, project, cast-at}
+use Rattle.model.specs.Place.{Elem, deref, field, downcast, index, Place, Verb, Fold, Unfold, Statement, At, Spot, no-index}
+use Rattle.model.specs.Walk.{nth, child, inside, enter, step, walk, opening, act, carry, carry-at, pick, enum-at, subject-at, fitting, reached, project-at, downcasting, projection, changed, project, cast-at}
 use Rattle.model.specs.Collect.{folded, unfolds, unfoldss, collect, collects}
 use Rattle.model.specs.Rounds.{elem}
 use Rattle.model.specs.Promised.{One-of}
@@ -196,6 +196,13 @@ module _ (Γ : List ℕ) where
   enum-refusals q E =
       let t = type (reached Γ (q .place) (pick (q .local) E)) in
       only-bind (nth-only walking refl (walk-refusals (q .place)) (q .local) E) (λ D. only-require walking (eqb (kind Γ t) 7) 5 (λ _. done t) refl (λ b. only-done))
+
+  -- and of looking for what a match is on
+  pub subject-refusals : (q : Spot) (E : Forest) → Only walking (subject-at Γ q E)
+  unfolding subject-at elem
+  subject-refusals q E = split (no-index (q .place))
+      (λ i. rw (i, subject-at) (only-bind (enum-refusals q E) (λ t. only-done)))
+      (λ i. rw (i, subject-at) (only-bind (nth-only walking refl (walk-refusals (q .place)) (q .local) E) (λ D. only-done)))
 
   -- to open
   opening-only : (s : Tree) → Only carrying (opening Γ s)

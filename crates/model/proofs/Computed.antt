@@ -35,7 +35,7 @@ unfolding
     State.decode State.local-ok State.locals-ok
     Place.steps Place.spot-ok Place.used-ok Place.fold-ok Place.unfold-ok Place.same-elem Place.same-place Place.same-spot
     Walk.opened Walk.opening Walk.enter Walk.step Walk.walk Walk.wide Walk.reached Walk.changed Walk.project Walk.project-at
-    Walk.carry Walk.carry-at Walk.fitting Walk.projection Walk.cast-at Walk.downcasting Walk.enum-at
+    Walk.carry Walk.carry-at Walk.fitting Walk.projection Walk.cast-at Walk.downcasting Walk.enum-at Walk.subject-at
     Collect.hop Collect.lift Collect.unfolds Collect.collect Collect.folds Collect.folds-at-ret
     Collect.bare Collect.first-clash Collect.returned
     Function.local-types Function.start Function.rank Function.op Function.arg Function.stop Function.follow-table
@@ -51,7 +51,7 @@ unfolding
     Passes.elaborate Passes.analyse
     Measure.loose Measure.stuck Measure.measure
     Body.enter-uses Body.use-at Body.pass-stations Body.variants-from Body.variants Body.variant-of Body.without Body.only
-    Body.choice Body.open-variant Body.match-targets Body.exits-of Body.ret-lines Body.body Body.frame
+    Body.choice Body.open-variant Body.match-targets Body.unopened Body.match-exits Body.exits-of Body.ret-lines Body.body Body.frame
     Record.elem-entry Record.verb-entry Record.point-entry Record.line-entries Record.entries Record.statement-record
     Record.writable Record.lent Record.gather-one Record.gather Record.recorded
     Whole.passes Whole.ghost-statements Whole.with-buffer Whole.share Whole.joined Whole.shares Whole.accepted Whole.denied

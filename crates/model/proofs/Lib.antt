@@ -6,10 +6,11 @@ pub mod Build
 mod Rows
 mod Table
 mod Further
--- whole functions: the worked example, a match, the refusals, the limits
+-- whole functions: the worked example, matches on an enum and on an element, the refusals, the limits
 mod Worked
 mod Replays
 mod Match
+mod Elements
 mod Refusals
 mod Limits
 -- the calls on states

@@ -10,7 +10,7 @@ use Rattle.model.specs.Types.{count, discriminant}
 use Rattle.model.specs.Tree.{Forest, sizes, joins, flagss}
 use Rattle.model.specs.State.{most}
 use Rattle.model.specs.Place.{Spot, At}
-use Rattle.model.specs.Walk.{projection, downcasting, enum-at, carry-at}
+use Rattle.model.specs.Walk.{projection, downcasting, subject-at, carry-at}
 use Rattle.model.specs.Collect.{collects, folds-at-ret}
 use Rattle.model.specs.Function.{nargs, nblocks, rank, stop}
 use Rattle.model.specs.Block.{Station, stations, entry-point, targets, is-join-point, returns, matched, is-arm, arm-value}
@@ -78,6 +78,10 @@ choice fn i ds = elim (is-arm fn i) [
   | false ↦ done (record { opens = only ds; remain = ds })
 ]
 
+-- targets that leave the state as it is
+unfoldable pub unopened : List (ℕ × ℕ) → Forest → List (Exit Forest)
+unopened ts E = map (λ t. record { item = t .0; block = t .1; state = E }) ts
+
 module _ (Γ fn : List ℕ) where
   unfoldable pub open-variant : Spot → Option ℕ → Forest → Answer Forest
   open-variant q none E = done E
@@ -89,10 +93,16 @@ module _ (Γ fn : List ℕ) where
   match-targets q E (t ∷ ts) ds = choice fn (t .0) ds >>= λ c. open-variant q (c .opens) E >>= λ D.
       match-targets q E ts (c .remain) >>= λ xs. done (record { item = t .0; block = t .1; state = D } ∷ xs)
 
+  -- the exits of a match on an enum; or on an array's element: "its arms and its otherwise target leave the state unchanged, and arm
+  -- values aren't looked up" (F-1)
+  unfoldable pub match-exits : Spot → List (ℕ × ℕ) → Forest → Option ℕ → Answer (List (Exit Forest))
+  match-exits q ts E none = done (unopened ts E)
+  match-exits q ts E (some t) = match-targets q E ts (variants Γ t)
+
   -- the exits, in the state that the block's statements leave
   unfoldable pub exits-of : Option Spot → List (ℕ × ℕ) → Forest → Answer (List (Exit Forest))
-  exits-of none ts E = done (map (λ t. record { item = t .0; block = t .1; state = E }) ts)
-  exits-of (some q) ts E = enum-at Γ q E >>= λ t. match-targets q E ts (variants Γ t)
+  exits-of none ts E = done (unopened ts E)
+  exits-of (some q) ts E = subject-at Γ q E >>= match-exits q ts E
 
   -- what a return records
   unfoldable pub ret-lines : ℕ → Forest → List (Line At)

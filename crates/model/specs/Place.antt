@@ -71,6 +71,14 @@ walked (field i ∷ p) = field i ∷ walked p
 walked (downcast v ∷ p) = downcast v ∷ walked p
 walked (index ∷ p) = []
 
+-- the place holds no index, so all of it is walked
+abbrev pub no-index : Place → Bool
+no-index [] = true
+no-index (deref ∷ p) = no-index p
+no-index (field i ∷ p) = no-index p
+no-index (downcast v ∷ p) = no-index p
+no-index (index ∷ p) = false
+
 -- the walked place without its last element
 abbrev pub base : Place → Place
 base [] = []

@@ -12,7 +12,7 @@ use Prim.Native.Nat.{ℕ}
 use lib.Dec.{eqb}
 use Rattle.model.specs.Answer.{Answer, refused, done, _>>=_}
 use Rattle.model.specs.Tree.{Forest, leaves, unfolded}
-use Rattle.model.specs.Place.{Spot, At}
+use Rattle.model.specs.Place.{Spot, At, no-index}
 use Rattle.model.specs.Walk.{nth, walk, pick, changed, reached, carries-at, cast-at, enum-at}
 use Rattle.model.specs.Function.{local-types}
 use Rattle.model.specs.Block.{Station, stations, entry-point, targets, matched}
@@ -67,10 +67,13 @@ module _ (Γ : List ℕ) where
   cast-maybe q none E = done E
   cast-maybe q (some v) E = cast-at Γ q v E
 
-  -- a target's own unfolding
+  -- a target's own unfolding; nothing where the place read holds an index (F-1)
   unfoldable pub own : List ℕ → ℕ → List (ℕ × ℕ) → Option Spot → Forest → Answer Forest
   own fn i ts none E = done E
-  own fn i ts (some q) E = enum-at Γ q E >>= λ t. opens-at fn i ts (variants Γ t) >>= λ o. cast-maybe q o E
+  own fn i ts (some q) E = elim (no-index (q .place)) [
+    | true ↦ enum-at Γ q E >>= λ t. opens-at fn i ts (variants Γ t) >>= λ o. cast-maybe q o E
+    | false ↦ done E
+  ]
 
 module _ (Γ fn words : List ℕ) where
   -- the record's statements at a point

@@ -3,14 +3,15 @@
 -- What is done at the node reached is handed in, so that one definition serves: `walk done p` only walks, `walk folding p`
 -- then folds, `walk opening p` then opens one level, `walk (enter (downcast v)) p` then opens the variant v.
 use mathlib.Core.List.{List, [], _∷_, map}
-use mathlib.Core.Bool.{Bool, false, cond, not, _||_}
+use mathlib.Core.Bool.{Bool, true, false, cond, not, _||_}
+use mathlib.Core.Option.{Option, none, some}
 use Prim.Native.Nat.{ℕ, zero, suc}
 use lib.Dec.{eqb, leb}
 use Rattle.model.specs.Answer.{Answer, refused, done, _>>=_, require, run}
 use Rattle.model.specs.Types.{kind, kids, pointer, fielded, shut, casts}
 use Rattle.model.specs.Tree.{Tree, leaf, node, Forest, nil, more, sizes, type, unfolded, leaves}
 use Rattle.model.specs.State.{most}
-use Rattle.model.specs.Place.{Elem, deref, field, downcast, index, Place, Spot, Verb, Fold, Unfold, Statement, At, first, later, base}
+use Rattle.model.specs.Place.{Elem, deref, field, downcast, index, Place, Spot, Verb, Fold, Unfold, Statement, At, first, later, no-index, base}
 
 -- f at the tree number i; 5 if there is none
 abbrev pub nth : ℕ → (Tree → Answer Tree) → Forest → Answer Forest
@@ -164,3 +165,10 @@ module _ (Γ : List ℕ) where
   unfoldable pub enum-at : Spot → Forest → Answer ℕ
   enum-at q E = nth (q .local) (walk Γ done (q .place)) E >>= λ D.
       require (eqb (kind Γ (type (reached (q .place) (pick (q .local) E)))) 7) 5 (λ _. done (type (reached (q .place) (pick (q .local) E))))
+
+  -- what a match is on: the enum at its place; or none, where the place holds an index that the walk accepts: an array's element (F-1)
+  unfoldable pub subject-at : Spot → Forest → Answer (Option ℕ)
+  subject-at q E = elim (no-index (q .place)) [
+    | true ↦ enum-at q E >>= λ t. done (some t)
+    | false ↦ nth (q .local) (walk Γ done (q .place)) E >>= λ D. done none
+  ]
