@@ -6,26 +6,26 @@ use mathlib.Core.Option.{Option, none, some}
 use Prim.Native.Nat.{ℕ, suc, _-_, _≤_, _<_}
 use native.Mathlib.Decide.{decLt}
 use native.Mathlib.Omega.{arith}
-use borrow.Author.Tests.{eqb-true, ne-eqb}
-use lib.Dec.{eqb}
-use Rattle.model.specs.Answer.{Answer, refused, done}
+use borrow.Author.Tests.{ne-eqb}
+use Rattle.model.specs.Answer.{Answer, refused, done, _>>=_}
 use Rattle.model.specs.Types.{kind}
-use Rattle.model.specs.Tree.{Forest, type}
-use Rattle.model.specs.Place.{Spot}
-use Rattle.model.specs.Walk.{nth, walk, pick, reached, enum-at}
+use Rattle.model.specs.Tree.{Forest}
+use Rattle.model.specs.Place.{Spot, no-index}
+use Rattle.model.specs.Walk.{nth, walk, enum-at, subject-at}
 use Rattle.model.specs.Function.{nblocks, nitems, start, stop, op, local-types}
 use Rattle.model.specs.Block.{is-arm, matched, targets}
 use Rattle.model.specs.Body.{exits-of}
 use Rattle.base.specs.Tests.{split, clash}
-use Rattle.base.specs.Answer.{then-done}
+use Rattle.base.specs.Answer.{then-done, good-at}
+use Rattle.laws.specs.Refusals.{enum-kind}
 use Rattle.base.specs.Kinds.{kind-known}
 use Rattle.graph.specs.Enders.{target-last}
 use Rattle.state.specs.declared.nodes.State.{State}
 use Rattle.state.proofs.Fields.{ready-typed}
 use Rattle.blocks.specs.Points.{item-of}
 use Rattle.blocks.specs.declared.matching.Item.the-variants.{At, Nowhere}
-use Rattle.env.specs.Answers.{enum-of}
-use Rattle.env.specs.declared.project.Enum.the-variants.{Of, Refused as Other}
+use Rattle.env.specs.Answers.{on-of}
+use Rattle.env.specs.declared.project.On.the-variants.{Enum, Element, Refused as Other}
 use Rattle.blocks.proofs.Spots.{formed-accepted, block-stop}
 use Rattle.blocks.proofs.Points.{Matched, matched-holds}
 use Rattle.body.specs.declared.arms.Subject.{Subject}
@@ -47,25 +47,39 @@ pub item-some : (o : Option ℕ) {r : ℕ} → item-of o ≡ At r → o ≡ some
 item-some none e = cc
 item-some (some i) e = cc
 
--- a place of no enum
-pub enum-refused : (a : Answer ℕ) {n : ℕ} → enum-of a ≡ Other n → a ≡ refused n
-enum-refused (refused m) e = cc
-enum-refused (done t) e = cc
+-- a match on neither an enum nor an element
+pub on-refused : (a : Answer (Option ℕ)) {n : ℕ} → on-of a ≡ Other n → a ≡ refused n
+on-refused (refused m) e = cc
+on-refused (done none) e = cc
+on-refused (done (some t)) e = cc
 
--- and of one
-pub enum-done : (a : Answer ℕ) {t : ℕ} → enum-of a ≡ Of t → a ≡ done t
-enum-done (refused m) e = cc
-enum-done (done t) e = cc
+-- on an element
+pub on-element : (a : Answer (Option ℕ)) → on-of a ≡ Element → a ≡ done none
+on-element (refused m) e = cc
+on-element (done none) e = refl
+on-element (done (some t)) e = cc
+
+-- on an enum
+pub on-enum : (a : Answer (Option ℕ)) {t : ℕ} → on-of a ≡ Enum t → a ≡ done (some t)
+on-enum (refused m) e = cc
+on-enum (done none) e = cc
+on-enum (done (some t)) e = cc
 
 -- THE MATCH
 
--- what is walked for its type is an enum
-enum-kind : (Γ : List ℕ) (q : Spot) (E : Forest) {t : ℕ} → enum-at Γ q E ≡ done t → kind Γ t ≡ 7
-unfolding enum-at
-enum-kind Γ q E {t} e =
-    let (D, _, d) = then-done (nth (q .local) (walk Γ done (q .place)) E) e in
-    let u = type (reached Γ (q .place) (pick (q .local) E)) in
-    split (eqb (kind Γ u) 7) (λ k. let z : u ≡ t = cc in rw z at (eqb-true (kind Γ u) 7 k)) (λ k. clash (cc))
+-- the enum that it is on is one
+subject-kind : (Γ : List ℕ) (q : Spot) (E : Forest) {t : ℕ} → subject-at Γ q E ≡ done (some t) → kind Γ t ≡ 7
+unfolding subject-at
+subject-kind Γ q E {t} e = split (no-index (q .place))
+    (λ i.
+    let g : (enum-at Γ q E >>= λ u. done (some u)) ≡ done (some t) = cc in
+    let (u, k, d) = then-done (enum-at Γ q E) g in
+    let z : u ≡ t = cc in
+    rw z at (good-at (enum-kind Γ q E) k))
+    (λ i.
+    let g : (nth (q .local) (walk Γ done (q .place)) E >>= λ D. done none) ≡ done (some t) = cc in
+    let (D, k, d) = then-done (nth (q .local) (walk Γ done (q .place)) E) g in
+    clash (cc))
 
 module _ {Γ os fn : List ℕ} (A : Accepted Γ os fn) {b : ℕ} {m : Subject} {s : State} (l : b < nblocks fn) (M : Matching Γ fn b m s) where
   -- the read
@@ -75,7 +89,7 @@ module _ {Γ os fn : List ℕ} (A : Accepted Γ os fn) {b : ℕ} {m : Subject} {
   -- and its enum
   pub match-sought : Stated Γ (local-types fn) s → Sought Γ fn m
   match-sought S =
-      let k = enum-kind Γ _ (S .state) (M .enum (S .state) (S .holds)) in
+      let k = subject-kind Γ _ (S .state) (M .enum (S .state) (S .holds)) in
       record { item = omega (arith, read-in .high, block-stop (A .formed) l); used = read-in .uses; known = kind-known Γ (m .typ) (λ z. omega arith); enum = k }
 
   module _ {i : ℕ} (low : start fn b ≤ i) (high : i < stop fn b) where

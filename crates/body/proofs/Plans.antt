@@ -2,7 +2,7 @@
 use mathlib.Core.Path.{_≡_, refl, ap, _∙_}
 use mathlib.Core.Logic.{_≢_}
 use mathlib.Core.Bool.{Bool, true, false}
-use mathlib.Core.List.{List, [], _∷_, map}
+use mathlib.Core.List.{List, [], _∷_}
 use mathlib.Core.Option.{none, some, Option·map}
 use Prim.Native.Nat.{ℕ, suc, _+_, _-_, _≤_, _<_}
 use native.Mathlib.Numerals.{add-one}
@@ -13,11 +13,11 @@ use Rattle.model.specs.Words.{word, collect-from}
 use Rattle.model.specs.Answer.{Answer, refused, done, _>>=_}
 use Rattle.model.specs.Types.{count}
 use Rattle.model.specs.Tree.{Forest}
-use Rattle.model.specs.Walk.{enum-at}
+use Rattle.model.specs.Walk.{subject-at}
 use Rattle.model.specs.Function.{nblocks, start, stop, op, arg}
 use Rattle.model.specs.Block.{spot-before, matched, targets, is-arm, arm-value}
 use Rattle.model.specs.Frame.{Exit}
-use Rattle.model.specs.Body.{variant-of, without, only, Choice, choice, open-variant, match-targets, exits-of}
+use Rattle.model.specs.Body.{variant-of, without, only, Choice, choice, open-variant, match-targets, unopened, match-exits, exits-of}
 use Rattle.base.specs.Tests.{clash, split-option}
 use Rattle.base.specs.Each.{Each, each-none, each-more}
 use Rattle.base.specs.Answer.{split-answer}
@@ -98,9 +98,9 @@ module _ (Γ fn : List ℕ) (m : Subject) (E : Forest) where
 
   -- THE FIRST
 
-  pub trying-first : (b : ℕ) (taken : List ℕ) → b < nblocks fn → matched-read fn b ≡ some (m .read) → enum-at Γ (spot-before fn (m .read)) E ≡ done (m .typ)
+  pub trying-first : (b : ℕ) (taken : List ℕ) → b < nblocks fn → matched-read fn b ≡ some (m .read) → subject-at Γ (spot-before fn (m .read)) E ≡ done (some (m .typ))
       → ((v : ℕ) → v < count Γ (m .typ) → word taken v ≡ 0) → exits-of Γ fn (matched fn b) (targets fn b) E ≡ trying (stop fn b) (start fn b) taken
-  unfolding exits-of targets trying aims
+  unfolding exits-of match-exits targets trying aims
   trying-first b taken l k e z =
       let q = has-match fn b k in
       let f = free-all Γ (m .typ) taken z in
@@ -211,7 +211,8 @@ module _ {Γ fn : List ℕ} {m : Subject} {b : ℕ} {E : Forest} (k : matched-re
       rw z (planned-match L S (trying-last Γ fn m E e i taken l t a s D d) (last-chosen Γ fn m E e i taken l t a s w D r d)))
 
 -- without a match each target leaves with the state as it is
-unchanged : (E : Forest) (ts : List (ℕ × ℕ)) → Each {A = Exit Forest} (λ x. _≡_ {A = Answer Forest} (done E) (done (x .state))) (map (λ t. record { item = t .0; block = t .1; state = E }) ts)
+unchanged : (E : Forest) (ts : List (ℕ × ℕ)) → Each (λ x. _≡_ {A = Answer Forest} (done E) (done (x .state))) (unopened ts E)
+unfolding unopened
 unchanged E [] = each-none
 unchanged E (t ∷ ts) = each-more refl (unchanged E ts)
 
@@ -225,11 +226,24 @@ planned-plain Γ fn b E m =
       refuses = λ n d. clash (cc);
       plain = λ d. refl;
       sound = tt;
-      chosen = λ xs d. let z : map (λ t. record { item = t .0; block = t .1; state = E }) (targets fn b) ≡ xs = cc in rw z at (unchanged E (targets fn b));
+      chosen = λ xs d. let z : unopened (targets fn b) E ≡ xs = cc in rw z at (unchanged E (targets fn b));
     }
 
--- a place that is of no enum
-pub planned-walk : (Γ fn : List ℕ) (b read : ℕ) (E : Forest) {n : ℕ} → matched-read fn b ≡ some read → enum-at Γ (spot-before fn read) E ≡ refused n → Planned Γ fn b E (Refused n)
+-- and so it is by a match on an array's element
+pub planned-element : (Γ fn : List ℕ) (b read : ℕ) (E : Forest) → matched-read fn b ≡ some read → subject-at Γ (spot-before fn read) E ≡ done none → Planned Γ fn b E Plain
+unfolding exits-of match-exits
+planned-element Γ fn b read E m e =
+    let w = has-match fn b m in
+    record {
+      denied = λ n d. clash (cc);
+      refuses = λ n d. clash (cc);
+      plain = λ d. refl;
+      sound = tt;
+      chosen = λ xs d. let z : unopened (targets fn b) E ≡ xs = cc in rw z at (unchanged E (targets fn b));
+    }
+
+-- a match on neither
+pub planned-walk : (Γ fn : List ℕ) (b read : ℕ) (E : Forest) {n : ℕ} → matched-read fn b ≡ some read → subject-at Γ (spot-before fn read) E ≡ refused n → Planned Γ fn b E (Refused n)
 unfolding exits-of
 planned-walk Γ fn b read E {n} m e =
     let w = has-match fn b m in

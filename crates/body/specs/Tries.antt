@@ -10,7 +10,7 @@ use Rattle.model.specs.Words.{word, collect-from}
 use Rattle.model.specs.Answer.{Answer, refused, done}
 use Rattle.model.specs.Types.{count, discriminant}
 use Rattle.model.specs.Tree.{Forest}
-use Rattle.model.specs.Walk.{downcasting, enum-at}
+use Rattle.model.specs.Walk.{downcasting, subject-at}
 use Rattle.model.specs.Block.{spot-before, arm-value}
 use Rattle.model.specs.Body.{Left, variants, variant-of, without, only, open-variant}
 use Rattle.state.specs.declared.nodes.State.{State}
@@ -89,7 +89,7 @@ module _ (Γ fn : List ℕ) where
 -- the block b matches on this place, which is of this enum in each state of s
 pub record Matching (Γ fn : List ℕ) (b : ℕ) (m : Subject) (s : State) : Type 0 where
   pub is : matched-read fn b ≡ some (m .read)
-  pub enum : In-each Γ fn s (λ E. enum-at Γ (spot-before fn (m .read)) E ≡ done (m .typ))
+  pub enum : In-each Γ fn s (λ E. subject-at Γ (spot-before fn (m .read)) E ≡ done (some (m .typ)))
 
 -- no variant is taken yet
 pub record Blank (taken : List ℕ) : Type 0 where

@@ -19,8 +19,8 @@ use blocks::matching::Item;
 use blocks::matching::matched;
 use blocks::place::root_before;
 use env::open::downcast;
-use env::project::Enum;
-use env::project::enum_at;
+use env::project::On;
+use env::project::subject_at;
 use mir::function::arg_of;
 use mir::function::args_from;
 use mir::function::local_types;
@@ -43,8 +43,8 @@ pub struct Rest {
     pub other: u32,
 }
 
-// How a block's targets open the state: by no match; or by a match, whose otherwise target opens the one variant that is left,
-// if it is one.
+// How a block's targets open the state: not at all, by no match or by one on an array's element; or by a match on an enum, whose
+// otherwise target opens the one variant that is left, if it is one.
 pub enum Plan {
     Plain,
     Match { on: Subject, rest: Rest },
@@ -73,10 +73,11 @@ pub fn plan_of<'a>(
     let r = root_before(fun, read);
     let ops = ops_from(fun, r, read);
     let args = args_from(fun, r, read);
-    let e = enum_at(types, offs, local_types(fun), forms, whats, ops, args);
+    let e = subject_at(types, offs, local_types(fun), forms, whats, ops, args);
     match e {
-        Enum::Refused(n) => Plan::Refused(n),
-        Enum::Of(typ) => {
+        On::Refused(n) => Plan::Refused(n),
+        On::Element => Plan::Plain,
+        On::Enum(typ) => {
             let mut taken = [0u8; 16384];
             let on = Subject { read, typ };
             try_arms(types, offs, fun, b, on, forms, whats, nodes, &mut taken)

@@ -5,9 +5,8 @@ use mathlib.Core.List.{List, [], _∷_}
 use Prim.Native.Nat.{ℕ, suc, _+_, _*_, _≤_}
 use native.Mathlib.Omega.{arith}
 use lib.ListN.{length}
-use Rattle.model.specs.Place.{Place, stops}
+use Rattle.model.specs.Place.{Place, stops, no-index}
 use Rattle.base.specs.Typed.{Typed}
-use Rattle.laws.specs.Places.{no-index}
 use Rattle.walk.specs.Fresh.{Bud, grows, sprout}
 use Rattle.walk.specs.declared.step.Fresh.{Fresh}
 use Rattle.walk.specs.declared.step.Opened.{Opened}

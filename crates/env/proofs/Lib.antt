@@ -11,8 +11,8 @@ pub mod States
 pub mod Added
 -- a walk that has ended, and one step more there
 pub mod Lasts
--- the type of a place
-pub mod Enums
+-- what a match on a place is on
+pub mod Subjects
 -- the projection; a fold carried out is one
 pub mod Projecting
 pub mod Folding

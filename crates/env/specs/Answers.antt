@@ -1,6 +1,7 @@
 -- The code's answers as model's: each case of an enum by document 01's number and values.
 use mathlib.Core.Path.{_≡_}
 use mathlib.Core.List.{List}
+use mathlib.Core.Option.{Option, none, some}
 use Prim.Native.Nat.{ℕ}
 use Rattle.model.specs.Answer.{Answer, refused, done, _>>=_}
 use Rattle.model.specs.Tree.{Tree, Forest}
@@ -25,8 +26,8 @@ use Rattle.env.specs.declared.project.Change.{Change}
 use Rattle.env.specs.declared.project.Moved.{Moved}
 use Rattle.env.specs.declared.open.Last.{Last}
 use Rattle.env.specs.declared.open.Last.the-variants.{Stays, Opens as Opening, Refused as Barred}
-use Rattle.env.specs.declared.project.Enum.{Enum}
-use Rattle.env.specs.declared.project.Enum.the-variants.{Of, Refused as Other}
+use Rattle.env.specs.declared.project.On.{On}
+use Rattle.env.specs.declared.project.On.the-variants.{Enum, Element, Refused as Other}
 
 -- what a call in lent arrays leaves, as a call by value has it
 abbrev pub usage-in : Use → List ℕ → List ℕ → Usage
@@ -85,9 +86,11 @@ abbrev pub left : Tree → Outcome → Answer Tree
 left y Fine = done y
 left y (Denied n) = refused n
 
-abbrev pub enum-of : Answer ℕ → Enum
-enum-of (refused n) = Other n
-enum-of (done t) = Of t
+-- what a match is on
+abbrev pub on-of : Answer (Option ℕ) → On
+on-of (refused n) = Other n
+on-of (done none) = Element
+on-of (done (some t)) = Enum t
 
 -- THE CALLS FOR USERS
 

@@ -7,7 +7,7 @@ use Prim.Native.Nat.{ℕ}
 use lib.ListN.{length, getD}
 use Rattle.model.specs.Tree.{Tree, Forest, sizes}
 use Rattle.model.specs.Place.{Elem, Verb, Spot, fold-ok, unfold-ok}
-use Rattle.model.specs.Walk.{pick, projection, downcasting, enum-at}
+use Rattle.model.specs.Walk.{pick, projection, downcasting, subject-at}
 use Rattle.model.specs.Collect.{firsts}
 use Rattle.model.specs.Block.{elem-of}
 use Rattle.model.specs.Calls.{spot-of}
@@ -22,11 +22,11 @@ use Rattle.walk.specs.declared.along.Walked.{Walked}
 use Rattle.env.specs.declared.project.Usage.{Usage}
 use Rattle.env.specs.declared.project.Outcome.{Outcome}
 use Rattle.env.specs.declared.project.Moved.{Moved}
-use Rattle.env.specs.declared.project.Enum.{Enum}
+use Rattle.env.specs.declared.project.On.{On}
 use Rattle.env.specs.declared.open.More.{More}
 use Rattle.env.specs.declared.open.Last.{Last}
 use Rattle.env.specs.Given.{Sited}
-use Rattle.env.specs.Answers.{Projects, last-step, carrying, outcome, Moves, Lasts, left, enum-of}
+use Rattle.env.specs.Answers.{Projects, last-step, carrying, outcome, Moves, Lasts, left, on-of}
 
 -- the element that one step more is
 abbrev pub element : More → Elem
@@ -73,9 +73,9 @@ module _ (Γ locals fs ws ops args : List ℕ) where
   abbrev pub Walks-there : Walked → Type 0
   Walks-there r = (n : ℕ) → Wherever Γ locals (state-in fs ws n) ops args (λ E q. Walks Γ fs ws ops args (sizes (firsts (q .local) E)) (q .place) (pick (q .local) E) r)
 
-  -- the enum that the place has
-  abbrev pub Enum-there : Enum → Type 0
-  Enum-there r = (n : ℕ) → Wherever Γ locals (state-in fs ws n) ops args (λ E q. r ≡ enum-of (enum-at Γ q E))
+  -- what a match on the place is on
+  abbrev pub Subject-there : On → Type 0
+  Subject-there r = (n : ℕ) → Wherever Γ locals (state-in fs ws n) ops args (λ E q. r ≡ on-of (subject-at Γ q E))
 
 -- WHERE THE WALK HAS ENDED, at w
 

@@ -6,7 +6,7 @@ ghost use Rattle.type_record.specs.Sizes.{Ready};
 ghost use Rattle.state.specs.Value.{state-in};
 ghost use Rattle.env.specs.Given.{Asked, Asked-in, Sited};
 ghost use Rattle.env.specs.Answers.{usage-in, moved-in};
-ghost use Rattle.env.specs.There.{Projects-there, Carries-there, Walks-there, Enum-there, Projects-at};
+ghost use Rattle.env.specs.There.{Projects-there, Carries-there, Walks-there, Subject-there, Projects-at};
 use state::nodes::State;
 use state::nodes::local_at;
 use type_record::record::kind_of;
@@ -53,8 +53,10 @@ pub struct Moved {
     pub state: State,
 }
 
-pub enum Enum {
-    Of(usize),
+// What a match is on: an enum, or an array's element.
+pub enum On {
+    Enum(usize),
+    Element,
     Refused(u32),
 }
 
@@ -76,8 +78,9 @@ pub fn ensure_unfolded<'a>(
     walk_along(types, offs, forms, whats, ops, args, i, wide(locals[l]))
 }
 
-// The type of the place, which must be an enum: "a match first walks its place, for its type alone".
-pub fn enum_at<'a>(
+// What a match on the place is on: "a match first walks its place, for its type alone". A walk that ends before an index ends at an
+// array, so the place is an element of it; any other place must be an enum.
+pub fn subject_at<'a>(
     types: &[u32],
     offs: &[u32],
     locals: &[u32],
@@ -85,20 +88,23 @@ pub fn enum_at<'a>(
     whats: &'a [u16],
     ops: &[u32],
     args: &[u32],
-) -> Enum
+) -> On
     requires { ⌜ Asked-in (now types) (now offs) (now locals) (now forms) (now whats) (now ops) (now args) (used-ok (length (now locals))) ⌝ }
-    ensures { λ r. ⌜ Enum-there (was types) (was locals) (was forms) (was whats) (was ops) (was args) r ⌝ }
+    ensures { λ r. ⌜ Subject-there (was types) (was locals) (was forms) (was whats) (was ops) (was args) r ⌝ }
 {
     let a = ensure_unfolded(types, offs, locals, forms, whats, ops, args);
     let Walked::To(w) = a else {
-        return Enum::Refused(refusal(a));
+        return On::Refused(refusal(a));
     };
+    if w.walked < ops.len() {
+        return On::Element;
+    }
     let f = w.fresh;
     let t = f.typ;
     if kind_of(types, t) == 7 {
-        Enum::Of(t)
+        On::Enum(t)
     } else {
-        Enum::Refused(5)
+        On::Refused(5)
     }
 }
 

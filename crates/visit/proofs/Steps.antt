@@ -15,7 +15,7 @@ use Rattle.model.specs.Collect.{folds-at-ret}
 use Rattle.model.specs.Function.{nargs, nblocks, start, stop, op}
 use Rattle.model.specs.Block.{stations, targets, is-join-point, returns, matched}
 use Rattle.model.specs.Frame.{mark, Exit}
-use Rattle.model.specs.Body.{pass-stations, exits-of, ret-lines, body, frame}
+use Rattle.model.specs.Body.{pass-stations, unopened, exits-of, ret-lines, body, frame}
 use Rattle.solver.specs.Direct.{do-goto, do-leave, do-work, do-enter}
 use Rattle.base.specs.Answer.{split-answer}
 use Rattle.base.specs.Collected.{collect-none}
@@ -102,7 +102,7 @@ module _ {fn : List ℕ} (A : FunctionFacts fn) {b : ℕ} (l : b < nblocks fn) w
 module _ {fn : List ℕ} (A : FunctionFacts fn) {b : ℕ} (l : b < nblocks fn) where
   -- one that returns has no target
   pub departs-none : (Γ : List ℕ) (recording : Bool) (n : ℕ) (E : Forest) (m : Memory) → returns fn b ≡ true → departs Γ fn recording n b E m ≡ done m
-  unfolding exits-of do-leave
+  unfolding exits-of do-leave unopened
   departs-none Γ recording n E m e = rw (returns-unmatched A l e, returns-none A l e) refl
 
 -- a block returns if its last item does

@@ -14,7 +14,7 @@ use Rattle.model.specs.Answer.{Answer, refused, done, _>>=_}
 use Rattle.model.specs.Types.{kids}
 use Rattle.model.specs.Tree.{Tree, leaf, node, size, sizes, type, leaves}
 use Rattle.model.specs.State.{Code, codes}
-use Rattle.model.specs.Place.{Elem, deref, field, downcast, index, Place, Spot, stops}
+use Rattle.model.specs.Place.{Elem, deref, field, downcast, index, Place, Spot, stops, no-index}
 use Rattle.model.specs.Walk.{enter, opening, opened, inside, walk, reached, changed}
 use Rattle.model.specs.Block.{elem-of}
 use Rattle.model.specs.Calls.{spot-of}
@@ -22,7 +22,6 @@ use Rattle.base.specs.Tests.{split}
 use Rattle.base.specs.Answer.{bind-done, bind-bind}
 use Rattle.base.specs.Typed.{Typed}
 use Rattle.laws.specs.Typing.{fit-root}
-use Rattle.laws.specs.Places.{no-index}
 use Rattle.records.specs.Codes.{length-codes}
 use Rattle.walk.specs.Frame.{Frame}
 use Rattle.walk.specs.Way.{route, acts, Stepped}

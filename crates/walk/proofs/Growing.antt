@@ -12,7 +12,7 @@ use Rattle.model.specs.Types.{ntypes, kind, count, pointer, fielded, shut, form
 use Rattle.model.specs.Tree.{Tree, leaf, node, size, leaves}
 use Rattle.model.specs.Typing.{Openable}
 use Rattle.model.specs.State.{Code, codes}
-use Rattle.model.specs.Place.{Elem, deref, field, downcast, index, Place, stops}
+use Rattle.model.specs.Place.{Elem, deref, field, downcast, index, Place, stops, no-index}
 use Rattle.model.specs.Walk.{child, inside, opened, opening, enter, walk, next, reached, wide}
 use borrow.Author.Tests.{eqb-true, eqb-false, leb-true, leb-false}
 use Rattle.base.specs.Tests.{split, cond-split, and-left}
@@ -20,7 +20,6 @@ use Rattle.base.specs.Answer.{bind-done, bind-bind}
 use Rattle.base.specs.Kinds.{pointer-not-enum, pointer-not-shut, fielded-not-enum, fielded-not-shut, openable-zero}
 use Rattle.laws.specs.Typing.{fits-leaves}
 use Rattle.laws.specs.Walked.{openable-cast}
-use Rattle.laws.specs.Places.{no-index}
 use Rattle.base.specs.Typed.{Typed, kid-placed, parts-inside, owner-inside, kids-pointer}
 use Rattle.base.specs.Parts.{length-kids, kids-at}
 use Rattle.walk.specs.Way.{acts}

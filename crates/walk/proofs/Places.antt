@@ -12,12 +12,11 @@ use lib.ListN.{length, length-map}
 use lib.Dec.{eqb}
 use borrow.Author.Tests.{eqb-true, eqb-false}
 use Rattle.model.specs.Words.{word}
-use Rattle.model.specs.Place.{Elem, deref, field, downcast, index, Place, Spot, walked, stops}
+use Rattle.model.specs.Place.{Elem, deref, field, downcast, index, Place, Spot, walked, stops, no-index}
 use Rattle.model.specs.Block.{elem-of}
 use Rattle.model.specs.Record.{elem-entry}
 use Rattle.model.specs.Calls.{spot-of}
 use Rattle.base.specs.Tests.{split}
-use Rattle.laws.specs.Places.{no-index}
 use Rattle.records.specs.Here.{firsts, seconds}
 use Rattle.records.specs.Recorded.{elem-back}
 use Rattle.records.specs.Spots.{place-entries, spot-entries, Items, spot-items}

@@ -13,14 +13,13 @@ use Rattle.model.specs.Answer.{Answer, refused, done, _>>=_}
 use Rattle.model.specs.Types.{ntypes, kind}
 use Rattle.model.specs.Tree.{Tree, leaf, node, type}
 use Rattle.model.specs.State.{codes}
-use Rattle.model.specs.Place.{deref, field, downcast, index, Place, stops}
+use Rattle.model.specs.Place.{deref, field, downcast, index, Place, stops, no-index}
 use Rattle.model.specs.Walk.{enter, step, inside, walk, reached, changed, opened}
 use Rattle.model.specs.Block.{elem-of}
 use Rattle.base.specs.Tests.{split}
 use Rattle.base.specs.Typed.{Typed}
 use Rattle.base.specs.Answer.{bind-bind}
 use Rattle.laws.specs.Typing.{fit-root}
-use Rattle.laws.specs.Places.{no-index}
 use Rattle.records.specs.Here.{Coded}
 use Rattle.walk.specs.Frame.{Frame}
 use Rattle.walk.specs.Way.{route, acts, Stepped, Way}

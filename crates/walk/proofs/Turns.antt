@@ -9,11 +9,10 @@ use Rattle.model.specs.Words.{word}
 use Rattle.model.specs.Types.{ntypes, kind, form}
 use Rattle.model.specs.Tree.{size}
 use Rattle.model.specs.State.{Code}
-use Rattle.model.specs.Place.{Elem, Place, stops}
+use Rattle.model.specs.Place.{Elem, Place, stops, no-index}
 use Rattle.model.specs.Block.{elem-of}
 use Rattle.base.specs.Tests.{split}
 use Rattle.base.specs.Typed.{Typed}
-use Rattle.laws.specs.Places.{no-index}
 use Rattle.records.specs.Codes.{size-pos}
 use Rattle.walk.specs.Way.{route}
 use Rattle.walk.specs.Fresh.{folded, Bud, bud, grows, sprout, stub, variant, distance, mark, passing, trail}

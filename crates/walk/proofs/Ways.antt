@@ -11,10 +11,9 @@ use Rattle.model.specs.Words.{word}
 use Rattle.model.specs.Block.{elem-of}
 use Rattle.model.specs.Answer.{Answer, done, _>>=_}
 use Rattle.model.specs.Tree.{Tree, unfolded}
-use Rattle.model.specs.Place.{Elem, deref, field, downcast, index, Place, stops}
+use Rattle.model.specs.Place.{Elem, deref, field, downcast, index, Place, stops, no-index}
 use Rattle.model.specs.Walk.{inside, step, walk, next, reached, changed}
 use Rattle.base.specs.Answer.{bind-done, bind-bind}
-use Rattle.laws.specs.Places.{no-index}
 use Rattle.walk.specs.Way.{route, acts, Stepped, Way}
 use Rattle.walk.proofs.Frames.{top, within}
 

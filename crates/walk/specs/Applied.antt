@@ -9,11 +9,10 @@ use lib.Dec.{eqb}
 use Rattle.model.specs.Types.{ntypes, kind, form}
 use Rattle.model.specs.Tree.{Tree}
 use Rattle.model.specs.State.{Code, codes, padded}
-use Rattle.model.specs.Place.{Elem, Place}
+use Rattle.model.specs.Place.{Elem, Place, no-index}
 use Rattle.model.specs.Block.{elem-of}
 use Rattle.records.specs.Here.{Coded, firsts, seconds}
 use Rattle.state.specs.declared.nodes.State.{State}
-use Rattle.laws.specs.Places.{no-index}
 use Rattle.walk.specs.Way.{route}
 use Rattle.walk.specs.Fresh.{folded, variant, grows, sprout, trail, stub, mark}
 use Rattle.walk.specs.declared.step.Fresh.{Fresh}

@@ -9,10 +9,9 @@ use lib.ListN.{length}
 use Rattle.model.specs.Answer.{Answer, refused}
 use Rattle.model.specs.Types.{ntypes}
 use Rattle.model.specs.Tree.{Tree, leaf, type}
-use Rattle.model.specs.Place.{Place, Spot, walked, stops}
+use Rattle.model.specs.Place.{Place, Spot, walked, stops, no-index}
 use Rattle.model.specs.Walk.{walk}
 use Rattle.model.specs.Calls.{spot-of}
-use Rattle.laws.specs.Places.{no-index}
 use Rattle.records.specs.Here.{Coded}
 use Rattle.walk.specs.Way.{route, Way}
 use Rattle.walk.specs.Fresh.{folded, sprout}

@@ -1,4 +1,4 @@
--- `body::arms::plan_of` meets its contract: by what `matched`, `enum_at` and `try_arms` ensure. Assumes nothing.
+-- `body::arms::plan_of` meets its contract: by what `matched`, `subject_at` and `try_arms` ensure. Assumes nothing.
 use mathlib.Core.Path.{_≡_, refl, sym, _∙_}
 use mathlib.Core.Bool.{true}
 use mathlib.Core.Option.{some}
@@ -6,18 +6,18 @@ use Prim.Native.Nat.{ℕ, _<_}
 use native.Mathlib.Omega.{arith}
 use borrow.Author.Needs.{needs}
 use lib.ListN.{getD-replicate}
-use Rattle.model.specs.Walk.{enum-at}
+use Rattle.model.specs.Walk.{subject-at}
 use Rattle.model.specs.Function.{nitems}
 use Rattle.model.specs.Block.{spot-before, uses-place}
 use Rattle.state.specs.Value.{state-in}
 use Rattle.blocks.specs.Points.{matched-read}
 use Rattle.blocks.proofs.Spots.{block-stop}
 use Rattle.blocks.proofs.Points.{matched-holds}
-use Rattle.env.specs.Answers.{enum-of}
+use Rattle.env.specs.Answers.{on-of}
 use Rattle.state.specs.Given.{In-each}
 use Rattle.body.proofs.Places.{place-range, place-spot, place-locals, place-holds, place-given}
-use Rattle.body.proofs.Plans.{planned-plain, planned-walk}
-use Rattle.body.proofs.Matches.{item-none, item-some, enum-refused, enum-done}
+use Rattle.body.proofs.Plans.{planned-plain, planned-element, planned-walk}
+use Rattle.body.proofs.Matches.{item-none, item-some, on-refused, on-element, on-enum}
 use Rattle.body.proofs.arms.plan_of.Statement.{statement}
 use Rattle.body.proofs.arms.plan_of.Tie as tie
 
@@ -90,8 +90,8 @@ module _ (m : tie.After-local-types) where
   abbrev opped : tie.After-ops-from
   opped = search
 
-enum-at-requires : tie.Need-enum-at-requires
-enum-at-requires m κs =
+subject-at-requires : tie.Need-subject-at-requires
+subject-at-requires m κs =
     let (A, (b, S)) = start (told m) .pre in
     let (l, u) = reads (told m) in
     let e = rooted m .root-before .ensures in
@@ -100,7 +100,7 @@ enum-at-requires m κs =
     let a = m .before .args-from .ensures in
     (A .ready, (place-locals A l u e _ _ _ z o a, (_, place-given A l u e _ _ _ z o a S)))
 
-module _ (c : tie.After-enum-at) where
+module _ (c : tie.After-subject-at) where
   -- where the read is known, and the function's entry
   abbrev before-walk : tie.After-known-told
   before-walk = told (c .before)
@@ -110,7 +110,7 @@ module _ (c : tie.After-enum-at) where
 
   -- what it answers
   walked : In-each (first .args .types .now) (first .args .fun .now) (state-in (first .args .forms .now) (first .args .whats .now) (first .args .nodes))
-      (λ E. c .enum-at .result ≡ enum-of (enum-at (first .args .types .now) (spot-before (first .args .fun .now) (read before-walk)) E))
+      (λ E. c .subject-at .result ≡ on-of (subject-at (first .args .types .now) (spot-before (first .args .fun .now) (read before-walk)) E))
   walked E h =
       let m = c .before in
       let A = first .pre .0 in
@@ -119,10 +119,13 @@ module _ (c : tie.After-enum-at) where
       let z = m .local-types .ensures in
       let o = opped m .ops-from .ensures in
       let a = m .before .args-from .ensures in
-      c .enum-at .ensures (first .args .nodes) E _ (place-holds A l u e _ _ _ z o a h) (place-spot A l u e _ _ _ z o a)
+      c .subject-at .ensures (first .args .nodes) E _ (place-holds A l u e _ _ _ z o a h) (place-spot A l u e _ _ _ z o a)
 
 enum-known-e : tie.Need-enum-known-e
 enum-known-e c = search needs
+
+enum-told-2 : tie.Need-enum-told-2
+enum-told-2 c = search needs
 
 enum-known-e-2 : tie.Need-enum-known-e-2
 enum-known-e-2 c = search needs
@@ -132,7 +135,7 @@ slice-aggregate-try-arms c = search needs
 
 try-arms-requires : tie.Need-try-arms-requires
 try-arms-requires c κs =
-    let w : tie.After-enum-at = search in
+    let w : tie.After-subject-at = search in
     let (A, (b, S)) = first w .pre in (
       A,
       (
@@ -140,7 +143,7 @@ try-arms-requires c κs =
         (
           S,
           (
-            record { is = known (before-walk w); enum = λ E h. enum-done _ (sym (walked w E h) ∙ c .before .before .e2 .given .1) },
+            record { is = known (before-walk w); enum = λ E h. on-enum _ (sym (walked w E h) ∙ c .before .before .e2 .given .1) },
             record { long = refl; zero = λ v l. getD-replicate 16384 v 0 0 l },
           ),
         ),
@@ -149,11 +152,16 @@ try-arms-requires c κs =
 
 returns-2 : tie.Need-returns-2
 returns-2 c E h =
-    let w : tie.After-enum-at = search in
-    planned-walk _ _ _ _ E (known (before-walk w)) (enum-refused _ (sym (walked w E h) ∙ c .before .e .given .1))
+    let w : tie.After-subject-at = search in
+    planned-walk _ _ _ _ E (known (before-walk w)) (on-refused _ (sym (walked w E h) ∙ c .before .e .given .1))
 
 returns-3 : tie.Need-returns-3
-returns-3 c = search needs
+returns-3 c E h =
+    let w : tie.After-subject-at = search in
+    planned-element _ _ _ _ E (known (before-walk w)) (on-element _ (sym (walked w E h) ∙ c .enum-told2 .given .1))
+
+returns-4 : tie.Need-returns-4
+returns-4 c = search needs
 
 pub plan-of-spec : {M : Type 1} → statement M
 plan-of-spec =
@@ -167,10 +175,12 @@ plan-of-spec =
     ops-from-requires
     args-from-requires
     local-types-requires
-    enum-at-requires
+    subject-at-requires
     enum-known-e
+    enum-told-2
     enum-known-e-2
     slice-aggregate-try-arms
     try-arms-requires
     returns-2
-    returns-3)
+    returns-3
+    returns-4)

@@ -11,11 +11,10 @@ use lib.ListN.{length}
 use Rattle.model.specs.Answer.{Answer, refused}
 use Rattle.model.specs.Types.{ntypes, kind}
 use Rattle.model.specs.Tree.{Tree}
-use Rattle.model.specs.Place.{Place, Spot}
+use Rattle.model.specs.Place.{Place, Spot, no-index}
 use Rattle.model.specs.Walk.{walk}
 use Rattle.model.specs.Calls.{spot-of}
 use Rattle.base.specs.Typed.{Typed}
-use Rattle.laws.specs.Places.{no-index}
 use Rattle.state.proofs.Fields.{ready-typed, ready-sized}
 use Rattle.walk.specs.Fresh.{folded, sprout}
 use Rattle.walk.specs.Site.{rest, extent, walked-from, led, onward, Passing, Passes-at, Site}
