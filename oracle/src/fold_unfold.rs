@@ -226,7 +226,9 @@ impl<'a, M: Mode> FoldUnfoldAnalysis<'a, M> {
     }
 
     /// A match: each arm unfolds its variant unrecorded; the otherwise target does so if one
-    /// variant is left. The first walk is for the type alone, so 9 isn't tested there.
+    /// variant is left. The first walk is for the type alone, so 9 isn't tested there. Where the
+    /// place holds an index that is all (document 02, F-1): the targets leave the state unchanged,
+    /// and arm values aren't looked up.
     fn match_targets(
         &self,
         env: Env,
@@ -235,6 +237,9 @@ impl<'a, M: Mode> FoldUnfoldAnalysis<'a, M> {
         otherwise: Target,
     ) -> Result<Vec<(Env, Target)>, Refusal> {
         let ty = env.walked_type(self.genv, place)?;
+        if place.holds_index() {
+            return Ok(jump_targets(env, arms, otherwise));
+        }
         if !self.genv.is_enum(ty) {
             return Err(Refusal::WrongStep);
         }
@@ -273,7 +278,7 @@ impl<'a, M: Mode> FoldUnfoldAnalysis<'a, M> {
     }
 }
 
-/// A switch that is no match only jumps.
+/// A switch that is no match, or one on an array's element, only jumps.
 fn jump_targets(env: Env, arms: &[Arm], otherwise: Target) -> Vec<(Env, Target)> {
     let mut successors: Vec<_> = arms.iter().map(|arm| (env.clone(), arm.target)).collect();
     successors.push((env, otherwise));

@@ -86,6 +86,11 @@ impl Place {
         std::iter::once(root).chain(self.projection.iter().map(|elem| elem.to_item())).collect()
     }
 
+    /// Does the place hold an index? Then it is an array's element, or lies inside one.
+    pub fn holds_index(&self) -> bool {
+        self.projection.contains(&PlaceElem::Index)
+    }
+
     /// The place cut to its first elements.
     pub fn truncate(&self, len: usize) -> Place {
         Place::new(self.local, self.projection[..len].to_vec())

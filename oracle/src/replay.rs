@@ -103,7 +103,8 @@ pub fn place_matched(data: &BasicBlockData) -> Option<&Place> {
     })
 }
 
-/// The place read and the variant that a target item of a match unfolds.
+/// The place read and the variant that a target item of a match unfolds; nothing where the place
+/// holds an index (document 02, F-1).
 fn own_unfolding<'a>(
     genv: &Types,
     env: &Env,
@@ -111,6 +112,9 @@ fn own_unfolding<'a>(
     item: usize,
 ) -> Result<Option<(&'a Place, VariantIdx)>, Refusal> {
     let Some(place) = place_matched(data) else { return Ok(None) };
+    if place.holds_index() {
+        return Ok(None);
+    }
     let TerminatorKind::SwitchInt { arms, .. } = &data.terminator.kind else {
         return Ok(None);
     };

@@ -1,9 +1,9 @@
-//! The cases round each limit: which of them are refused, and with what.
+//! The cases round each limit and those of the requests: which are refused, and with what.
 
 use oracle::generate::limits::limits;
 
 /// All others are accepted.
-const REFUSED: [(u32, &[&str]); 7] = [
+const REFUSED: [(u32, &[&str]); 8] = [
     (
         1,
         &[
@@ -91,8 +91,20 @@ const REFUSED: [(u32, &[&str]); 7] = [
             "unfold of 129 elements",
         ],
     ),
-    (5, &["a wrong step behind the 512th node"]),
-    (8, &["arm 4294967293"]),
+    (
+        5,
+        &[
+            "a wrong step behind the 512th node",
+            "F-1, a match on an array, no index",
+            "F-1, a match on a struct that holds an array",
+            "F-1, a match on an index at a struct",
+            "F-1, a match on an index at a field that is no array",
+            "F-1, a match on an element with no downcast, its enum folded by then",
+            "F-1, a match on an element with no downcast, its enum at another variant by then",
+        ],
+    ),
+    (6, &["F-1, a match on an element, its enum at another variant by then"]),
+    (8, &["arm 4294967293", "F-1, a match on an enum noted in an element, any values"]),
     (
         9,
         &[

@@ -161,7 +161,6 @@ fn refusal_5_wrong_step() {
         assert_eq!(one_block(ty, &format!("use {used}; return")), Err(5), "{used} of type {ty}");
     }
     assert_eq!(one_block(1, "note _1 _2; switch _2 0"), Err(5), "a match on a struct");
-    assert_eq!(one_block(8, "note _1.[] _2; switch _2 0"), Err(5), "a match on an element");
 }
 
 #[test]

@@ -3,7 +3,7 @@
 
 use super::{
     draft::{push_note, push_return, push_switch, push_target, push_use, Draft, Item},
-    places::{enum_place, random_place, wrong_place, FAR, NEAR},
+    places::{element_place, enum_place, random_place, wrong_place, FAR, NEAR},
     rng::Rng,
     Size,
 };
@@ -177,20 +177,29 @@ impl Writer<'_> {
         fits
     }
 
-    /// [place read place note]; mostly of an enum, and noted in the last local.
+    /// [place read place note]; mostly of an enum or of an array's element, and noted in the last
+    /// local, or now and then in an element.
     fn note(&mut self, env: &mut Env, items: &mut Vec<Item>, notes: &mut Vec<(Place, Place)>) {
-        let read = match self.rng.chance(80) {
-            true => enum_place(self.rng, self.genv, env).filter(|place| self.use_on(env, place)),
-            false => None,
+        let read = match self.rng.weighted(&[(50, 0), (35, 1), (15, 2)]) {
+            0 => enum_place(self.rng, self.genv, env),
+            1 => element_place(self.rng, self.genv, env),
+            _ => None,
         };
-        let read = read.unwrap_or_else(|| self.accepted_place(env));
-        let last = Place::new(env.map.len() - 1, vec![]);
-        let note = match self.rng.chance(80) && self.use_on(env, &last) {
-            true => last,
-            false => self.accepted_place(env),
+        let read = self.used_or_any(env, read);
+        let note = match self.rng.weighted(&[(70, 0), (15, 1), (15, 2)]) {
+            0 => Some(Place::new(env.map.len() - 1, vec![])),
+            1 => element_place(self.rng, self.genv, env),
+            _ => None,
         };
+        let note = self.used_or_any(env, note);
         push_note(items, &read, &note);
         notes.push((note, read));
+    }
+
+    /// This place, if it can be used; else one that can.
+    fn used_or_any(&mut self, env: &mut Env, place: Option<Place>) -> Place {
+        let place = place.filter(|place| self.use_on(env, place));
+        place.unwrap_or_else(|| self.accepted_place(env))
     }
 
     fn ender(
@@ -250,18 +259,25 @@ impl Writer<'_> {
             true => Some(self.accepted_place(&mut env)).filter(|place| is_unnoted(place, notes)),
             false => None,
         };
+        self.jump(bb, &env, items, discr.as_ref());
+    }
+
+    /// A switch whose targets leave the env as it is; its arms have any values, some of them twice.
+    fn jump(&mut self, bb: usize, env: &Env, items: &mut Vec<Item>, discr: Option<&Place>) {
         let mut arms = vec![];
         for _ in 0..self.rng.below(3) {
-            arms.push((self.rng.below(5) as u32, self.target(bb)));
+            let value = self.rng.weighted(&[(60, 0), (25, 4), (15, u32::MAX - 4)]);
+            arms.push((value + self.rng.below(5) as u32, self.target(bb)));
         }
         let otherwise = self.target(bb);
-        push_switch(items, discr.as_ref(), &arms, otherwise);
+        push_switch(items, discr, &arms, otherwise);
         for &target in arms.iter().map(|(_, target)| target).chain([&otherwise]) {
-            self.arrive(bb, target, &env);
+            self.arrive(bb, target, env);
         }
     }
 
-    /// A match on the read place's variants, some or all, in any order. False if it can't be.
+    /// A match on the read place's variants, some or all, in any order; or on an array's element,
+    /// with any arms. False if it can't be.
     fn switch_match(
         &mut self,
         bb: usize,
@@ -271,6 +287,10 @@ impl Writer<'_> {
         read: &Place,
     ) -> bool {
         let Ok(ty) = env.walked_type(self.genv, read) else { return false };
+        if read.holds_index() {
+            self.jump(bb, env, items, Some(note));
+            return true;
+        }
         if !self.genv.is_enum(ty) {
             return false;
         }
@@ -392,7 +412,7 @@ impl Writer<'_> {
             Some(Fault::WrongStep) => {
                 let read = self.accepted_place(env);
                 let Ok(ty) = env.walked_type(self.genv, &read) else { return false };
-                if self.genv.is_enum(ty) {
+                if self.genv.is_enum(ty) || read.holds_index() {
                     push_use(items, &read);
                     return false;
                 }

@@ -1,8 +1,10 @@
-//! The cases round each limit: one below, at it and one above, where there are such.
+//! The cases round each limit: one below, at it and one above, where there are such; and those of
+//! the requests.
 
 use super::{
     draft::{push_note, push_return, push_switch, push_target, push_use, Draft, Item},
     full::{full_function, full_state, PLACES},
+    requests::requests,
     rng::Rng,
     types::TypeList,
     Size,
@@ -36,6 +38,7 @@ pub fn limits() -> Vec<Named> {
     state_results(&mut cases);
     collected(&mut cases);
     texts(&mut cases);
+    requests(&mut cases);
     cases
 }
 
@@ -45,7 +48,7 @@ fn round(limit: usize) -> [usize; 3] {
 }
 
 /// Room for all join points and many statements.
-fn whole(types: Vec<u32>, draft: &Draft) -> Case {
+pub(super) fn whole(types: Vec<u32>, draft: &Draft) -> Case {
     let function = draft.words();
     let checked = Case { types, function, ..Case::new(Call::Function) };
     let joins = checked.answer().result.map_or(0, |words| words[0]);
@@ -70,7 +73,7 @@ fn uses(local_types: Vec<Ty>, places: &[Place]) -> Draft {
     draft
 }
 
-fn root(local: usize) -> Place {
+pub(super) fn root(local: usize) -> Place {
     Place::new(local, vec![])
 }
 

@@ -7,6 +7,7 @@ pub mod full;
 pub mod function;
 pub mod limits;
 pub mod places;
+pub mod requests;
 pub mod rng;
 pub mod states;
 pub mod types;

@@ -114,6 +114,21 @@ pub fn enum_place(rng: &mut Rng, genv: &Types, env: &Env) -> Option<Place> {
     })
 }
 
+/// An element of an array, and perhaps elements behind its index.
+pub fn element_place(rng: &mut Rng, genv: &Types, env: &Env) -> Option<Place> {
+    (0..12).find_map(|_| {
+        let mut place = random_place(rng, genv, env, NEAR);
+        if !place.holds_index() {
+            let ty = env.walked_type(genv, &place).ok()?;
+            if !genv.is_array(ty) {
+                return None;
+            }
+            index(rng, &mut place.projection);
+        }
+        Some(place)
+    })
+}
+
 /// A place that isn't opaque, and no array.
 pub fn open_place(rng: &mut Rng, genv: &Types, env: &Env) -> Option<Place> {
     (0..12).find_map(|_| {

@@ -57,7 +57,7 @@ fn random_type(rng: &mut Rng, types: &mut TypeList) {
         (8, TyKind::Pointer),
         (16, TyKind::MutRef),
         (10, TyKind::Box),
-        (5, TyKind::Array),
+        (12, TyKind::Array),
         (13, TyKind::Tuple),
         (24, TyKind::Struct),
         (24, TyKind::Enum),
