@@ -110,7 +110,41 @@ impl Open {
         Block { items: with(self.items, (STOP, 0)) }
     }
 
-    /// A switch on a place: a match, if a note of this block remembers it.
+    /// A switch on a place: a match, if a note of this block remembers it. A match on an enum opens
+    /// the variant of each arm. One on an element of an array opens nothing, and its arms may have
+    /// any values:
+    ///
+    /// ```
+    /// use hirvoksne::{ghost_statements, Function, Open, Place, Types};
+    ///
+    /// // fn restore(saved: &mut Saved), with struct Saved { timers: [Timer; 8], left: usize }
+    /// let mut types = Types::new();
+    /// let (int, timers) = (types.opaque(), types.array());
+    /// let saved = types.structure(&[timers, int]);
+    /// let saved = types.mut_ref(saved);
+    ///
+    /// let mut function = Function::new(int, &[saved], &[int, int]);
+    /// let timer = Place::local(1).deref().field(0).index(); // (*_1).0[_3]
+    /// let kind = Place::local(2); // its discriminant
+    /// let [next, look, periodic, once, done] = function.blocks();
+    /// // while saved.left != 0
+    /// let left = Open::new().used(&Place::local(1).deref().field(1)).switch_constant();
+    /// function.write(next, left.arm(0, done).otherwise(look));
+    /// // match saved.timers[i]
+    /// let seen = Open::new().read(&timer).note(&kind).switch(&kind);
+    /// function.write(look, seen.arm(0, once).arm(1, periodic).otherwise(once));
+    /// let period = timer.clone().downcast(1).field(0); // an element's parts aren't followed
+    /// function.write(periodic, Open::new().used(&period).goto(next));
+    /// function.write(once, Open::new().used(&timer).goto(next));
+    /// function.write(done, Open::new().ret());
+    ///
+    /// let statements = ghost_statements(&types.record(), &function.record())?;
+    /// // The owner of the timers is unfolded at the loop's test, and stays so through the match; it
+    /// // is folded at the return, and on both ways back.
+    /// let lines = ["at 3 unfold _1.*", "at 36 fold _1.*", "at 29 fold _1", "at 35 fold _1"];
+    /// assert_eq!(statements.to_string().lines().collect::<Vec<_>>(), lines);
+    /// # Ok::<(), hirvoksne::Refusal>(())
+    /// ```
     pub fn switch(self, place: &Place) -> Switch {
         Switch { items: with_place(self.items, place, SWITCH) }
     }

@@ -78,7 +78,7 @@ impl Refusal {
                 "an unknown local, too many elements, or a used place that ends in downcast"
             }
             Refusal::WrongStep => {
-                "a step that doesn't fit the type, or a match on a place that isn't an enum"
+                "a step that doesn't fit the type, or a match on what is no enum and no element"
             }
             Refusal::OtherVariant => "a downcast meets another variant than the unfolded one",
             Refusal::BareVariant => {
