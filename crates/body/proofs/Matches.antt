@@ -11,7 +11,7 @@ use Rattle.model.specs.Answer.{Answer, refused, done, _>>=_}
 use Rattle.model.specs.Types.{kind}
 use Rattle.model.specs.Tree.{Forest}
 use Rattle.model.specs.Place.{Spot, no-index}
-use Rattle.model.specs.Walk.{nth, walk, enum-at, subject-at}
+use Rattle.model.specs.Walk.{walk-at, enum-at, subject-at}
 use Rattle.model.specs.Function.{nblocks, nitems, start, stop, op, local-types}
 use Rattle.model.specs.Block.{is-arm, matched, targets}
 use Rattle.model.specs.Body.{exits-of}
@@ -77,8 +77,8 @@ subject-kind Γ q E {t} e = split (no-index (q .place))
     let z : u ≡ t = cc in
     rw z at (good-at (enum-kind Γ q E) k))
     (λ i.
-    let g : (nth (q .local) (walk Γ done (q .place)) E >>= λ D. done none) ≡ done (some t) = cc in
-    let (D, k, d) = then-done (nth (q .local) (walk Γ done (q .place)) E) g in
+    let g : (walk-at Γ q E >>= λ D. done none) ≡ done (some t) = cc in
+    let (D, k, d) = then-done (walk-at Γ q E) g in
     clash (cc))
 
 module _ {Γ os fn : List ℕ} (A : Accepted Γ os fn) {b : ℕ} {m : Subject} {s : State} (l : b < nblocks fn) (M : Matching Γ fn b m s) where

@@ -22,6 +22,7 @@ use Rattle.base.specs.Tests.{clash, split-option}
 use Rattle.base.specs.Each.{Each, each-none, each-more}
 use Rattle.base.specs.Answer.{split-answer}
 use Rattle.base.specs.Collected.{collect-zero, collect-pass, collect-fail}
+use Rattle.graph.specs.Elements.{unopened-each}
 use Rattle.blocks.specs.Points.{matched-read}
 use Rattle.blocks.proofs.Points.{matched-place}
 use Rattle.body.specs.declared.arms.Subject.{Subject}
@@ -212,9 +213,7 @@ module _ {Γ fn : List ℕ} {m : Subject} {b : ℕ} {E : Forest} (k : matched-re
 
 -- without a match each target leaves with the state as it is
 unchanged : (E : Forest) (ts : List (ℕ × ℕ)) → Each (λ x. _≡_ {A = Answer Forest} (done E) (done (x .state))) (unopened ts E)
-unfolding unopened
-unchanged E [] = each-none
-unchanged E (t ∷ ts) = each-more refl (unchanged E ts)
+unchanged E ts = unopened-each (λ x. _≡_ {A = Answer Forest} (done E) (done (x .state))) E (λ t. refl) ts
 
 -- so the plan is plain
 pub planned-plain : (Γ fn : List ℕ) (b : ℕ) (E : Forest) → matched-read fn b ≡ none → Planned Γ fn b E Plain

@@ -9,7 +9,7 @@ use lib.Dec.{eqb}
 use Rattle.model.specs.Answer.{done, _>>=_}
 use Rattle.model.specs.Tree.{Forest}
 use Rattle.model.specs.Place.{Spot, no-index, used-ok}
-use Rattle.model.specs.Walk.{enum-at}
+use Rattle.model.specs.Walk.{walk-at, enum-at}
 use Rattle.model.specs.Function.{nlocals}
 use Rattle.model.specs.Frame.{Exit}
 use Rattle.model.specs.Body.{Left, variants, Choice, choice, open-variant, match-targets, unopened, exits-of, frame}
@@ -21,14 +21,8 @@ use Rattle.solver.specs.Lists.{each-apart, Once, once-head, once-tail}
 use Rattle.solver.specs.Laws.{Good}
 use Rattle.solver.specs.Canon.{exit-items}
 use Rattle.graph.specs.Points.{match-listed}
-use Rattle.graph.specs.Elements.{first-walk, element-exits, element-refused, element-own, enum-exits}
+use Rattle.graph.specs.Elements.{unopened-each, element-exits, element-refused, element-own, enum-exits}
 use Rattle.graph.specs.Trees.{small-good, Trees}
-
--- what holds of every exit in the state as it is
-unopened-each : (P : Exit Forest → Type 0) (E : Forest) → ((t : ℕ × ℕ) → P (record { item = t .0; block = t .1; state = E })) → (ts : List (ℕ × ℕ)) → Each P (unopened ts E)
-unfolding unopened
-unopened-each P E f [] = each-none
-unopened-each P E f (t ∷ ts) = each-more (f t) (unopened-each P E f ts)
 
 module _ (Γ fn : List ℕ) {Ok : Forest → Type 0} (T : Trees Γ fn Ok) where
   -- a state of the run
@@ -90,7 +84,7 @@ module _ (Γ fn : List ℕ) {Ok : Forest → Type 0} (T : Trees Γ fn Ok) where
       (λ i.
       let (t, v, w) = then-done (enum-at Γ q E) (sym (enum-exits Γ fn q ts E i) ∙ e) in
       each-same (λ x M. (cc (M .0), M .1)) (match-departs q E (a q refl) F ts (variants Γ t) o w))
-      (λ i. split-answer (first-walk Γ q E)
+      (λ i. split-answer (walk-at Γ q E)
       (λ n r. clash (cc (element-refused Γ fn q ts E i r)))
       (λ D r.
       let z : unopened ts E ≡ xs = cc (element-exits Γ fn q ts E i r) in

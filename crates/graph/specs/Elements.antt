@@ -2,31 +2,35 @@
 -- as document 01 has it.
 use mathlib.Core.Path.{_≡_}
 use mathlib.Core.Bool.{true, false}
-use mathlib.Core.List.{List}
+use mathlib.Core.List.{List, [], _∷_}
 use mathlib.Core.Option.{some}
 use Prim.Native.Nat.{ℕ}
-use Rattle.model.specs.Answer.{Answer, refused, done, _>>=_}
+use Rattle.model.specs.Answer.{refused, done, _>>=_}
 use Rattle.model.specs.Tree.{Forest}
 use Rattle.model.specs.Place.{Spot, no-index}
-use Rattle.model.specs.Walk.{nth, walk, enum-at, subject-at}
+use Rattle.model.specs.Walk.{walk-at, enum-at, subject-at}
+use Rattle.model.specs.Frame.{Exit}
 use Rattle.model.specs.Body.{variants, match-targets, unopened, match-exits, exits-of}
 use Rattle.model.specs.Replay.{opens-at, cast-maybe, own}
 use Rattle.base.specs.Answer.{split-answer}
+use Rattle.base.specs.Each.{Each, each-none, each-more}
 
--- the walk of the place that is matched on, whose changes are dropped
-abbrev pub first-walk : List ℕ → Spot → Forest → Answer Forest
-first-walk Γ q E = nth (q .local) (walk Γ done (q .place)) E
+-- what holds of every exit in the state as it is
+pub unopened-each : (P : Exit Forest → Type 0) (E : Forest) → ((t : ℕ × ℕ) → P (record { item = t .0; block = t .1; state = E })) → (ts : List (ℕ × ℕ)) → Each P (unopened ts E)
+unfolding unopened
+unopened-each P E f [] = each-none
+unopened-each P E f (t ∷ ts) = each-more (f t) (unopened-each P E f ts)
 
 module _ (Γ fn : List ℕ) (q : Spot) (ts : List (ℕ × ℕ)) (E : Forest) where
   -- AN INDEX
   module _ (h : no-index (q .place) ≡ false) where
     -- "its arms and its otherwise target leave the state unchanged, and arm values aren't looked up"
-    pub element-exits : {D : Forest} → first-walk Γ q E ≡ done D → exits-of Γ fn (some q) ts E ≡ done (unopened ts E)
+    pub element-exits : {D : Forest} → walk-at Γ q E ≡ done D → exits-of Γ fn (some q) ts E ≡ done (unopened ts E)
     unfolding exits-of subject-at match-exits
     element-exits e = rw (h, subject-at, e)
 
     -- "an index that the walk accepts": a refusal of the walk stands
-    pub element-refused : {n : ℕ} → first-walk Γ q E ≡ refused n → exits-of Γ fn (some q) ts E ≡ refused n
+    pub element-refused : {n : ℕ} → walk-at Γ q E ≡ refused n → exits-of Γ fn (some q) ts E ≡ refused n
     unfolding exits-of subject-at
     element-refused e = rw (h, subject-at, e)
 

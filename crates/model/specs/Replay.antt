@@ -13,7 +13,7 @@ use lib.Dec.{eqb}
 use Rattle.model.specs.Answer.{Answer, refused, done, _>>=_}
 use Rattle.model.specs.Tree.{Forest, leaves, unfolded}
 use Rattle.model.specs.Place.{Spot, At, no-index}
-use Rattle.model.specs.Walk.{nth, walk, pick, changed, reached, carries-at, cast-at, enum-at}
+use Rattle.model.specs.Walk.{walk-at, pick, changed, reached, carries-at, cast-at, enum-at}
 use Rattle.model.specs.Function.{local-types}
 use Rattle.model.specs.Block.{Station, stations, entry-point, targets, matched}
 use Rattle.model.specs.Frame.{Line}
@@ -35,7 +35,7 @@ module _ (Γ : List ℕ) where
   -- the place used is walked on a copy
   unfoldable pub look : Option Spot → Forest → Answer Forest
   look none E = done E
-  look (some q) E = nth (q .local) (walk Γ done (q .place)) E
+  look (some q) E = walk-at Γ q E
 
   -- the statements at a point, then the place used
   unfoldable pub stand : List At → Option Spot → Forest → Answer Forest
@@ -48,7 +48,7 @@ module _ (Γ : List ℕ) where
 
   -- the place used has a walk that isn't refused, changes no tree and ends on a folded node
   pub record Quiet (q : Spot) (E : Forest) : Type 0 where
-    pub walks : nth (q .local) (walk Γ done (q .place)) E ≡ done E
+    pub walks : walk-at Γ q E ≡ done E
     pub unchanged : changed Γ (q .place) (pick (q .local) E) ≡ false
     pub folded : unfolded (reached Γ (q .place) (pick (q .local) E)) ≡ false
 

@@ -161,14 +161,18 @@ module _ (Γ : List ℕ) where
   unfoldable pub downcasting : Spot → ℕ → Forest → Answer Forest
   downcasting q v E = cast-at q v E >>= fitting
 
+  -- a place walked in a state, and no more
+  abbrev pub walk-at : Spot → Forest → Answer Forest
+  walk-at q E = nth (q .local) (walk Γ done (q .place)) E
+
   -- "a match first walks its place, for its type alone (no enum is 5; changes are dropped, 9 isn't tested)"
   unfoldable pub enum-at : Spot → Forest → Answer ℕ
-  enum-at q E = nth (q .local) (walk Γ done (q .place)) E >>= λ D.
+  enum-at q E = walk-at q E >>= λ D.
       require (eqb (kind Γ (type (reached (q .place) (pick (q .local) E)))) 7) 5 (λ _. done (type (reached (q .place) (pick (q .local) E))))
 
   -- what a match is on: the enum at its place; or none, where the place holds an index that the walk accepts: an array's element (F-1)
   unfoldable pub subject-at : Spot → Forest → Answer (Option ℕ)
   subject-at q E = elim (no-index (q .place)) [
     | true ↦ enum-at q E >>= λ t. done (some t)
-    | false ↦ nth (q .local) (walk Γ done (q .place)) E >>= λ D. done none
+    | false ↦ walk-at q E >>= λ D. done none
   ]
