@@ -17,8 +17,8 @@ use Rattle.model.specs.Block.{is-arm, matched, targets}
 use Rattle.model.specs.Body.{exits-of}
 use Rattle.base.specs.Tests.{split, clash}
 use Rattle.base.specs.Answer.{then-done, good-at}
-use Rattle.laws.specs.Refusals.{enum-kind}
 use Rattle.base.specs.Kinds.{kind-known}
+use Rattle.laws.specs.Refusals.{enum-kind}
 use Rattle.graph.specs.Enders.{target-last}
 use Rattle.state.specs.declared.nodes.State.{State}
 use Rattle.state.proofs.Fields.{ready-typed}

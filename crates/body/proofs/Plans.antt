@@ -19,7 +19,7 @@ use Rattle.model.specs.Block.{spot-before, matched, targets, is-arm, arm-value}
 use Rattle.model.specs.Frame.{Exit}
 use Rattle.model.specs.Body.{variant-of, without, only, Choice, choice, open-variant, match-targets, unopened, match-exits, exits-of}
 use Rattle.base.specs.Tests.{clash, split-option}
-use Rattle.base.specs.Each.{Each, each-none, each-more}
+use Rattle.base.specs.Each.{each-none, each-more}
 use Rattle.base.specs.Answer.{split-answer}
 use Rattle.base.specs.Collected.{collect-zero, collect-pass, collect-fail}
 use Rattle.graph.specs.Elements.{unopened-each}
@@ -211,35 +211,29 @@ module _ {Γ fn : List ℕ} {m : Subject} {b : ℕ} {E : Forest} (k : matched-re
       let (w, z, r) = X .fine D d in
       rw z (planned-match L S (trying-last Γ fn m E e i taken l t a s D d) (last-chosen Γ fn m E e i taken l t a s w D r d)))
 
--- without a match each target leaves with the state as it is
-unchanged : (E : Forest) (ts : List (ℕ × ℕ)) → Each (λ x. _≡_ {A = Answer Forest} (done E) (done (x .state))) (unopened ts E)
-unchanged E ts = unopened-each (λ x. _≡_ {A = Answer Forest} (done E) (done (x .state))) E (λ t. refl) ts
+-- where each target leaves with the state as it is the plan is plain
+planned-unopened : (Γ fn : List ℕ) (b : ℕ) (E : Forest) → exits-of Γ fn (matched fn b) (targets fn b) E ≡ done (unopened (targets fn b) E) → Planned Γ fn b E Plain
+planned-unopened Γ fn b E e =
+    let h = unopened-each (λ x. _≡_ {A = Answer Forest} (done E) (done (x .state))) E (λ t. refl) (targets fn b) in
+    record {
+      denied = λ n d. clash (cc);
+      refuses = λ n d. clash (cc);
+      plain = λ d. refl;
+      sound = tt;
+      chosen = λ xs d. let z : unopened (targets fn b) E ≡ xs = cc in rw z at h;
+    }
 
--- so the plan is plain
+-- so it is without a match
 pub planned-plain : (Γ fn : List ℕ) (b : ℕ) (E : Forest) → matched-read fn b ≡ none → Planned Γ fn b E Plain
 unfolding exits-of
 planned-plain Γ fn b E m =
     let q : matched fn b ≡ none = matched-place fn b ∙ ap (Option·map (spot-before fn)) m in
-    record {
-      denied = λ n d. clash (cc);
-      refuses = λ n d. clash (cc);
-      plain = λ d. refl;
-      sound = tt;
-      chosen = λ xs d. let z : unopened (targets fn b) E ≡ xs = cc in rw z at (unchanged E (targets fn b));
-    }
+    planned-unopened Γ fn b E (rw q refl)
 
--- and so it is by a match on an array's element
+-- and by a match on an array's element
 pub planned-element : (Γ fn : List ℕ) (b read : ℕ) (E : Forest) → matched-read fn b ≡ some read → subject-at Γ (spot-before fn read) E ≡ done none → Planned Γ fn b E Plain
 unfolding exits-of match-exits
-planned-element Γ fn b read E m e =
-    let w = has-match fn b m in
-    record {
-      denied = λ n d. clash (cc);
-      refuses = λ n d. clash (cc);
-      plain = λ d. refl;
-      sound = tt;
-      chosen = λ xs d. let z : unopened (targets fn b) E ≡ xs = cc in rw z at (unchanged E (targets fn b));
-    }
+planned-element Γ fn b read E m e = planned-unopened Γ fn b E (rw (has-match fn b m, e) refl)
 
 -- a match on neither
 pub planned-walk : (Γ fn : List ℕ) (b read : ℕ) (E : Forest) {n : ℕ} → matched-read fn b ≡ some read → subject-at Γ (spot-before fn read) E ≡ refused n → Planned Γ fn b E (Refused n)

@@ -10,7 +10,7 @@ use Rattle.model.specs.Answer.{Answer, refused, done, _>>=_}
 use Rattle.model.specs.Tree.{Tree, Forest, more, unfolded}
 use Rattle.model.specs.Typing.{Fits, fit-none, fit-more}
 use Rattle.model.specs.Place.{Place, Spot, Statement, Fold, Unfold, At, later, base}
-use Rattle.model.specs.Walk.{nth, pick, walk, folding, reached, changed, project, project-at, projection, fitting}
+use Rattle.model.specs.Walk.{nth, pick, walk, folding, reached, changed, project, project-at, projection, fitting, walk-at}
 use Rattle.base.specs.Answer.{then-done}
 use Rattle.laws.specs.Places.{without-last}
 use Rattle.laws.specs.Recorded.{numbered}
@@ -82,7 +82,7 @@ module _ {Γ : List ℕ} where
     projection-refused e = rw (project-at-put fits (q .local) known (q .place), e done)
 
     -- it has changed the tree
-    pub projection-unfolds : {D : Forest} → changed Γ (q .place) (pick (q .local) E) ≡ true → nth (q .local) (walk Γ done (q .place)) E ≡ done D
+    pub projection-unfolds : {D : Forest} → changed Γ (q .place) (pick (q .local) E) ≡ true → walk-at Γ q E ≡ done D
         → projection Γ q E ≡ fitting Γ D >>= with-these (numbered (q .local) (record { verb = Unfold; place = base (q .place) }) ∷ [])
     projection-unfolds c e =
         let (u, k, m) = then-done (walk Γ done (q .place) (pick (q .local) E)) (sym (nth-put fits (q .local) known (walk Γ done (q .place))) ∙ e) in
@@ -90,7 +90,7 @@ module _ {Γ : List ℕ} where
 
     -- it has not, and has come to an open node
     pub projection-folded : {B D : Forest} → changed Γ (q .place) (pick (q .local) E) ≡ false → unfolded (reached Γ (q .place) (pick (q .local) E)) ≡ true
-        → nth (q .local) (walk Γ done (q .place)) E ≡ done B → nth (q .local) (walk Γ folding (q .place)) E ≡ done D
+        → walk-at Γ q E ≡ done B → nth (q .local) (walk Γ folding (q .place)) E ≡ done D
         → projection Γ q E ≡ fitting Γ D >>= with-these (numbered (q .local) (record { verb = Fold; place = q .place }) ∷ [])
     projection-folded c o b e =
         let (v, j, n) = then-done (walk Γ done (q .place) (pick (q .local) E)) (sym (nth-put fits (q .local) known (walk Γ done (q .place))) ∙ b) in
@@ -99,7 +99,7 @@ module _ {Γ : List ℕ} where
 
     -- and to a folded one
     pub projection-nothing : {D : Forest} → changed Γ (q .place) (pick (q .local) E) ≡ false → unfolded (reached Γ (q .place) (pick (q .local) E)) ≡ false
-        → nth (q .local) (walk Γ done (q .place)) E ≡ done D → projection Γ q E ≡ fitting Γ D >>= with-these []
+        → walk-at Γ q E ≡ done D → projection Γ q E ≡ fitting Γ D >>= with-these []
     projection-nothing c o e =
         let (u, k, m) = then-done (walk Γ done (q .place) (pick (q .local) E)) (sym (nth-put fits (q .local) known (walk Γ done (q .place))) ∙ e) in
         by-tree [] u (project-nothing Γ (q .place) (pick (q .local) E) k c o) m

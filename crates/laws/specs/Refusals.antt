@@ -15,7 +15,7 @@ use Rattle.model.specs.Tree.{Tree, leaf, node, Forest, nil, more, unfolded, siz
 use Rattle.model.specs.Typing.{fit-none, Fits, fit-more}
 use Rattle.model.specs.State.{most}
 use Rattle.model.specs.Place.{Elem, deref, field, downcast, index, Place, Verb, Fold, Unfold, Statement, At, Spot, no-index}
-use Rattle.model.specs.Walk.{nth, child, inside, enter, step, walk, opening, act, carry, carry-at, pick, enum-at, subject-at, fitting, reached, project-at, downcasting, projection, changed, project, cast-at}
+use Rattle.model.specs.Walk.{nth, child, inside, enter, step, walk, opening, act, carry, carry-at, pick, walk-at, enum-at, subject-at, fitting, reached, project-at, downcasting, projection, changed, project, cast-at}
 use Rattle.model.specs.Collect.{folded, unfolds, unfoldss, collect, collects}
 use Rattle.model.specs.Rounds.{elem}
 use Rattle.model.specs.Promised.{One-of}
@@ -187,7 +187,7 @@ module _ (Γ : List ℕ) where
   unfolding enum-at
   enum-kind q E =
       let t = type (reached Γ (q .place) (pick (q .local) E)) in
-      good-bind (good-self (nth (q .local) (walk Γ done (q .place)) E)) (λ D e.
+      good-bind (good-self (walk-at Γ q E)) (λ D e.
       good-require _ (eqb (kind Γ t) 7) 5 (λ _. done t) (λ d. good-done (eqb-true (kind Γ t) 7 d)))
 
   -- and the refusals of looking for it
