@@ -6,6 +6,8 @@ pub mod Tests
 pub mod Ranges
 -- laws of answers: cases, `Good`, what is accepted; `Accepted`; what is refused
 pub mod Answer
+-- the numbers with which an answer is refused: `Only`
+pub mod Only
 -- a fact of each element of a list: `Each`
 pub mod Each
 -- tests, sums and counts over the numbers below n

@@ -5,7 +5,6 @@ ghost use Rattle.model.specs.Place.{steps, usable, spot-ok, used-ok};
 ghost use Rattle.model.specs.Function.{nitems};
 ghost use Rattle.model.specs.Block.{root-before, uses-place, places-ok};
 ghost use Rattle.model.specs.Calls.{spot-of};
-ghost use Rattle.records.specs.Spots.{item-ok};
 ghost use Rattle.mir.specs.Sizes.{Laid, Formed};
 ghost use Rattle.mir.specs.Parts.{Spotted, is-some, Tells};
 use mir::function::args_from;
@@ -13,6 +12,7 @@ use mir::function::nitems;
 use mir::function::nlocals;
 use mir::function::op_of;
 use mir::function::ops_from;
+use mir::items::is_element;
 use type_record::record::wide;
 
 pub const MOST_ELEMENTS: usize = 128;
@@ -139,17 +139,6 @@ pub fn places_ok(fun: &[u32]) -> bool
     true
 }
 
-// Is the item an element's?
-fn item_named(o: u32, a: u32) -> bool
-    ensures { λ r. ⌜ r ≡ item-ok o a ⌝ }
-{
-    match o {
-        1 | 4 => a == 0,
-        2 | 3 => true,
-        _ => false,
-    }
-}
-
 // Are the items a place: a root, then items 1 to 4?
 pub fn is_place(ops: &[u32], args: &[u32]) -> bool
     ensures { λ r. ⌜ r ≡ is-some (spot-of (now (ops .entry)) (now (args .entry))) ⌝ }
@@ -166,7 +155,7 @@ pub fn is_place(ops: &[u32], args: &[u32]) -> bool
     }
     let mut j = 1;
     while j < n {
-        if !item_named(ops[j], args[j]) {
+        if !is_element(ops[j], args[j]) {
             return false;
         }
         j += 1;

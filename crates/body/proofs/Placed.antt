@@ -19,8 +19,9 @@ use Rattle.model.specs.Calls.{spot-of}
 use Rattle.model.specs.Rounds.{elem}
 use Rattle.base.specs.Answer.{bind-same}
 use Rattle.base.specs.Function.{FunctionFacts, function-facts, length-local-types}
+use Rattle.base.specs.Only.{one-apart, only-at}
 use Rattle.laws.specs.Places.{used-limits}
-use Rattle.laws.specs.Refusals.{one-apart, only-at, running, projection-refusals}
+use Rattle.laws.specs.Refusals.{running, projection-refusals}
 use Rattle.records.specs.Here.{Holds}
 use Rattle.graph.specs.Used.{place-used}
 use Rattle.mir.specs.Parts.{ops-part, args-part}

@@ -18,10 +18,11 @@ use Rattle.model.specs.Calls.{typed, taken, written, call-collect, call-unfolds
 use Rattle.model.specs.Promised.{One-of, statements-in, Collect-Promise, Unfolds-Promise, Folds-Promise, Clashes, Bare}
 use Rattle.base.specs.Tests.{split, clash}
 use Rattle.base.specs.Answer.{Good, good-done, good-bind, good-self, good-require, split-answer}
+use Rattle.base.specs.Only.{one-apart, only-at}
 use Rattle.laws.specs.Sound.{types-sound}
 use Rattle.laws.specs.Carried.{collects-lead, unfoldss-lead}
 use Rattle.laws.specs.Clash.{collects-refused, unfoldss-refused}
-use Rattle.laws.specs.Refusals.{one-apart, only-at, collecting, collects-refusals}
+use Rattle.laws.specs.Refusals.{collecting, collects-refusals}
 use Rattle.laws.specs.Returned.{folds-at-ret-carry}
 use Rattle.records.specs.Recorded.{recorded-lent, mark-stmts}
 use Rattle.calls.specs.Tested.{good-typed, good-taken, typed-past, taken-past, decode-valid}

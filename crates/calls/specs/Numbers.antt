@@ -17,9 +17,10 @@ use Rattle.model.specs.Rounds.{elem}
 use Rattle.model.specs.Record.{entries, writable}
 use Rattle.model.specs.Calls.{typed, taken, placed, spot-of, statement-ok, statement-at, written, call-projection, call-downcast, call-carry, call-join, call-collect, call-unfolds, call-folds}
 use Rattle.model.specs.Promised.{One-of, use-numbers, unfold-numbers, join-numbers, collect-numbers, unfolds-numbers, folds-numbers}
+use Rattle.base.specs.Only.{Only, only-refused, only-done, only-bind, only-require, only-more, only-of}
 use Rattle.laws.specs.Places.{used-limits}
 use Rattle.laws.specs.Clash.{unfoldss-refused}
-use Rattle.laws.specs.Refusals.{Only, only-refused, only-done, only-bind, only-require, only-more, only-of, projection-refusals, downcasting-refusals, carry-at-refusals, fold-refusals, fitting-refusals, collects-refusals}
+use Rattle.laws.specs.Refusals.{projection-refusals, downcasting-refusals, carry-at-refusals, fold-refusals, fitting-refusals, collects-refusals}
 use Rattle.calls.specs.Tested.{decode-valid}
 
 -- by cases on what may be there

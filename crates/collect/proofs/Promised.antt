@@ -9,7 +9,7 @@ use Rattle.model.specs.Calls.{call-collect, call-unfolds, call-folds}
 use Rattle.model.specs.Promised.{One-of, Collect-Promise, Unfolds-Promise, Folds-Promise}
 use Rattle.base.specs.Tests.{clash}
 use Rattle.base.specs.Answer.{Good, good-at, split-answer}
-use Rattle.laws.specs.Refusals.{Only, only-at}
+use Rattle.base.specs.Only.{Only, only-at}
 use Rattle.calls.specs.Numbers.{collect-refuses, unfolds-refuses, folds-refuses}
 use Rattle.calls.specs.Collected.{call-led, call-opened, call-settled, call-clashes, call-bare}
 use Rattle.state.specs.Value.{value}

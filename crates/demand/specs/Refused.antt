@@ -26,8 +26,9 @@ use Rattle.model.specs.Promised.{One-of, whole-numbers, Answered, in-lines, in-
 use Rattle.base.specs.Tests.{split, split-option, clash}
 use Rattle.base.specs.Each.{Each, each-none, each-more}
 use Rattle.base.specs.Function.{length-local-types}
+use Rattle.base.specs.Only.{Only, only-refused, only-done, only-then, only-bind, only-require, only-more, only-at, only-of}
 use Rattle.laws.specs.Places.{used-limits}
-use Rattle.laws.specs.Refusals.{Only, only-refused, only-done, only-then, only-bind, only-require, only-more, only-at, only-of, projection-refusals, downcasting-refusals, subject-refusals}
+use Rattle.laws.specs.Refusals.{projection-refusals, downcasting-refusals, subject-refusals}
 use Rattle.solver.specs.Laws.{Good}
 use Rattle.solver.specs.Refusals.{analyse-refused}
 use Rattle.graph.specs.Targets.{frame-edges}

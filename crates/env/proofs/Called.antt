@@ -17,7 +17,7 @@ use Rattle.model.specs.Walk.{projection}
 use Rattle.model.specs.Calls.{typed, taken, placed, spot-of, Recorded, nothing, fold, unfold-at, recorded-as, call-projection}
 use Rattle.base.specs.Tests.{split, split-option, clash}
 use Rattle.base.specs.Answer.{split-answer, good-at}
-use Rattle.laws.specs.Refusals.{Only, only-at}
+use Rattle.base.specs.Only.{Only, only-at}
 use Rattle.calls.specs.Numbers.{projection-refuses}
 use Rattle.calls.specs.Used.{call-used}
 use Rattle.records.specs.Encode.{decode-holds}

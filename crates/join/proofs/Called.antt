@@ -14,7 +14,7 @@ use Rattle.model.specs.Walk.{fitting}
 use Rattle.model.specs.Calls.{call-join}
 use Rattle.base.specs.Tests.{split, clash}
 use Rattle.base.specs.Answer.{split-answer, good-at}
-use Rattle.laws.specs.Refusals.{only-at}
+use Rattle.base.specs.Only.{only-at}
 use Rattle.calls.specs.Numbers.{join-refuses}
 use Rattle.calls.specs.Joined.{call-joined}
 use Rattle.mir.specs.Parts.{is-some}

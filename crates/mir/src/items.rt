@@ -1,4 +1,7 @@
 // The codes of items. A place is a root, which says its local, and elements.
+ghost use mathlib.Core.Path.{_≡_};
+ghost use Rattle.records.specs.Spots.{item-ok};
+
 pub const ROOT: u32 = 0;
 
 pub const DEREF: u32 = 1;
@@ -26,3 +29,14 @@ pub const TARGET: u32 = 10;
 pub const RETURN: u32 = 11;
 
 pub const STOP: u32 = 12;
+
+// Is the item an element's?
+pub fn is_element(o: u32, a: u32) -> bool
+    ensures { λ r. ⌜ r ≡ item-ok o a ⌝ }
+{
+    match o {
+        1 | 4 => a == 0,
+        2 | 3 => true,
+        _ => false,
+    }
+}

@@ -75,10 +75,12 @@ after before o = cond (eqb o 0) (cond (eqb before 0) 1 (cond (eqb before 2) 3 5)
     (cond (eqb o 9) 7
     (cond (eqb o 10 && eqb before 7) 6 8)))))))
 
--- "an arg not named is 0", "targets below B"
+-- "an arg not named is 0", "targets below B", of n blocks
+abbrev pub arg-named : ℕ → ℕ → ℕ → Bool
+arg-named n o a = cond (eqb o 10) (ltb a n) (eqb a 0 || eqb o 0 || eqb o 2 || eqb o 3 || eqb o 9)
+
 unfoldable pub arg-ok : List ℕ → ℕ → Bool
-arg-ok fn i = cond (eqb (op fn i) 10) (ltb (arg fn i) (nblocks fn))
-    (eqb (arg fn i) 0 || eqb (op fn i) 0 || eqb (op fn i) 2 || eqb (op fn i) 3 || eqb (op fn i) 9)
+arg-ok fn i = arg-named (nblocks fn) (op fn i) (arg fn i)
 
 -- REFUSAL 2
 

@@ -82,26 +82,26 @@ returns-3 c = rootless _ _ (c .if3 .taken)
 loop-holds : tie.Need-loop-holds Inv-loop μ-loop
 loop-holds c = (omega arith, omega arith, rest-start _ _ (omega arith) (omega arith) (c .if3 .left))
 
-mul-item-named : tie.Need-mul-item-named Inv-loop μ-loop
-mul-item-named c = search needs
+mul-is-element : tie.Need-mul-is-element Inv-loop μ-loop
+mul-is-element c = search needs
 
-shared-slice-read-item-named : tie.Need-shared-slice-read-item-named Inv-loop μ-loop
-shared-slice-read-item-named c = search needs
+shared-slice-read-is-element : tie.Need-shared-slice-read-is-element Inv-loop μ-loop
+shared-slice-read-is-element c = search needs
 
-mul-item-named-2 : tie.Need-mul-item-named-2 Inv-loop μ-loop
-mul-item-named-2 c = search needs
+mul-is-element-2 : tie.Need-mul-is-element-2 Inv-loop μ-loop
+mul-is-element-2 c = search needs
 
-shared-slice-read-item-named-2 : tie.Need-shared-slice-read-item-named-2 Inv-loop μ-loop
-shared-slice-read-item-named-2 c = omega arith
+shared-slice-read-is-element-2 : tie.Need-shared-slice-read-is-element-2 Inv-loop μ-loop
+shared-slice-read-is-element-2 c = omega arith
 
-item-named-requires : tie.Need-item-named-requires Inv-loop μ-loop
-item-named-requires c κs = search needs
+is-element-requires : tie.Need-is-element-requires Inv-loop μ-loop
+is-element-requires c κs = search needs
 
 returns-4 : tie.Need-returns-4 Inv-loop μ-loop
 returns-4 c =
     let loop′ : tie.At-loop Inv-loop μ-loop = search in
     let L = loop′ .loop in
-    let f = c .before .item-named in
+    let f = c .before .is-element in
     stopped _ _ (L .j) (omega arith) (L .inv .1) (f .result) (f .ensures) (not-true (f .result) (c .if4 .taken)) (L .inv .2)
 
 add-j : tie.Need-add-j Inv-loop μ-loop
@@ -114,7 +114,7 @@ loop-again : tie.Need-loop-again Inv-loop μ-loop
 loop-again c =
     let loop′ : tie.At-loop Inv-loop μ-loop = search in
     let L = loop′ .loop in
-    let f = c .before .item-named in
+    let f = c .before .is-element in
     (omega arith, L .inv .1, carried _ _ (L .j) (omega arith) (L .inv .1) (f .result) (f .ensures) (not-false (f .result) (c .if4 .left)) (L .inv .2))
 
 returns-5 : tie.Need-returns-5 Inv-loop μ-loop
@@ -122,5 +122,5 @@ returns-5 c = let L = c .before .loop in sym (L .inv .2 ∙ rest-end _ _ (L .j) 
 
 pub is-place-spec : {M : Type 1} → statement M
 is-place-spec =
-    tie.close (tie.spec Inv-loop μ-loop returns returns-2 shared-slice-read-if3 returns-3 loop-holds mul-item-named shared-slice-read-item-named
-    mul-item-named-2 shared-slice-read-item-named-2 item-named-requires returns-4 add-j loop-less loop-again returns-5)
+    tie.close (tie.spec Inv-loop μ-loop returns returns-2 shared-slice-read-if3 returns-3 loop-holds mul-is-element shared-slice-read-is-element
+    mul-is-element-2 shared-slice-read-is-element-2 is-element-requires returns-4 add-j loop-less loop-again returns-5)

@@ -1,4 +1,4 @@
--- `blocks::place::item_named` meets its contract. Assumes nothing.
+-- `mir::items::is_element` meets its contract. Assumes nothing.
 use mathlib.Core.Path.{_≡_}
 use mathlib.Core.Bool.{true, false, _||_}
 use mathlib.Core.Logic.{_⊎_, inl, inr, ⊎-elim}
@@ -9,8 +9,8 @@ use borrow.Author.Tests.{le-leb, lt-leb}
 use lib.Dec.{eqb}
 use Rattle.base.specs.Tests.{split}
 use Rattle.records.specs.Spots.{item-ok}
-use Rattle.blocks.proofs.place.item_named.Statement.{statement}
-use Rattle.blocks.proofs.place.item_named.Tie as tie
+use Rattle.mir.proofs.items.is_element.Statement.{statement}
+use Rattle.mir.proofs.items.is_element.Tie as tie
 
 -- deref and index, whose arg is 0
 bare : (o a : ℕ) → (o ≡ 1) ⊎ (o ≡ 4) → eqb a 0 ≡ item-ok o a
@@ -52,5 +52,5 @@ returns-4 c =
     let start : tie.Start = search in
     let a = start .args in behind (a .o) (a .a) (λ e. match-rest .match .rest .1 (inr e)) (c .if2 .left)
 
-pub item-named-spec : {M : Type 1} → statement M
-item-named-spec = tie.close (tie.spec returns returns-2 returns-3 returns-4)
+pub is-element-spec : {M : Type 1} → statement M
+is-element-spec = tie.close (tie.spec returns returns-2 returns-3 returns-4)
