@@ -1,4 +1,5 @@
 -- All that computes. A claim on closed records with the line `unfolding computed` is closed by `refl`.
+use Rattle.model.specs.Assign
 use Rattle.model.specs.Block
 use Rattle.model.specs.Body
 use Rattle.model.specs.Calls
@@ -59,6 +60,10 @@ unfolding
     Calls.typed Calls.taken Calls.elems-of Calls.spot-of Calls.placed Calls.recorded-verb Calls.recorded-as
     Calls.call-projection Calls.call-downcast Calls.statement-ok Calls.statement-at Calls.call-carry Calls.call-join
     Calls.written Calls.call-collect Calls.call-unfolds Calls.call-folds
+    Assign.read-items Assign.read-operand Assign.read-operands Assign.read-assign Assign.read-list Assign.places Assign.items-in
+    Assign.operand-ok Assign.operands-ok Assign.flag-ok Assign.count-ok Assign.wants-place Assign.constants-ok Assign.known
+    Assign.all-known Assign.acted Assign.dereffed Assign.operand-gives Assign.operands-give Assign.gives Assign.given
+    Assign.statements-of Assign.statement-items Assign.item-record Assign.items-lent
     Replay.at-point Replay.find Replay.look Replay.stand Replay.through Replay.opens-at Replay.cast-maybe Replay.own Replay.script
     Replay.play Replay.replay
     Ghosts.close Ghosts.digit Ghosts.scan-byte Ghosts.scan Ghosts.words-of Ghosts.types-length Ghosts.function-length

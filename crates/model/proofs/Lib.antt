@@ -15,5 +15,7 @@ mod Refusals
 mod Limits
 -- the calls on states
 mod States
+-- lists of MIR statements
+mod Assigns
 -- the refusals of each call, one for each number
 mod Numbers

@@ -1,4 +1,4 @@
--- Each of the ten refusals, met: 3 and 7 by calls on states, the others by whole functions. Then which comes first.
+-- Each of document 01's ten refusals, met: 3 and 7 by calls on states, the others by whole functions. Then which comes first.
 use mathlib.Core.Path.{_≡_, refl}
 use mathlib.Core.List.{List, [], _∷_, _++_}
 use Prim.Native.Nat.{ℕ}

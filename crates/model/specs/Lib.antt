@@ -31,6 +31,8 @@ pub mod Record
 pub mod Whole
 -- the calls on states for users
 pub mod Calls
+-- MIR statements as they are, and the items that they give
+pub mod Assign
 -- the replay
 pub mod Replay
 -- the program

@@ -53,6 +53,10 @@ unfolds-numbers = 1 ∷ 3 ∷ 7 ∷ 10 ∷ []
 abbrev pub folds-numbers : List ℕ
 folds-numbers = 1 ∷ 3 ∷ 10 ∷ []
 
+-- of a list of statements (document 02, F-2)
+abbrev pub statement-numbers : List ℕ
+statement-numbers = 2 ∷ 10 ∷ 11 ∷ []
+
 -- what `ghosts` prints: lines of statements, or `refused` and one of the numbers
 pub data Answered (text : List ℕ) : Type 0 where
   in-lines : (entry : ℕ) (ls : List (Line At)) → text ≡ lines-text entry ls → Answered text
