@@ -1,2 +1,2 @@
--- What the proof of the exported call cites.
+-- What the proofs of the exported calls cite.
 pub mod Answered

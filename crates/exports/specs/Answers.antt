@@ -1,13 +1,14 @@
--- The exported call's answer as model's.
+-- The exported calls' answers as model's.
 use mathlib.Core.Path.{_≡_}
 use mathlib.Core.List.{List}
 use Prim.Native.Nat.{ℕ}
 use lib.ListN.{length}
 use Rattle.model.specs.Answer.{Answer, refused, done}
 use Rattle.model.specs.Whole.{whole}
+use Rattle.model.specs.Assign.{statement-items, items-lent}
 
 -- the refusal, or 0: no refusal has that number
-abbrev pub number : Answer (ℕ × ℕ) → ℕ
+abbrev pub number : {A : Type 0} → Answer A → ℕ
 number (refused n) = n
 number (done c) = 0
 
@@ -18,3 +19,8 @@ pub record Exported (Γ fn fs ws out fs′ ws′ out′ : List ℕ) (r : ℕ) : 
   pub forms : fs′ ≡ (whole Γ fn (length fs) (length ws) (length out)) .forms
   pub whats : ws′ ≡ (whole Γ fn (length fs) (length ws) (length out)) .whats
   pub record-is : out′ ≡ (whole Γ fn (length fs) (length ws) (length out)) .out
+
+-- the items of a list of statements, in a buffer of n words; their number is its first word
+pub record Exported-items (ws : List ℕ) (n : ℕ) (out′ : List ℕ) (r : ℕ) : Type 0 where
+  pub answer : r ≡ number (statement-items ws n)
+  pub left : out′ ≡ items-lent n (statement-items ws n)

@@ -1,12 +1,15 @@
-// The calls for programs in Rust and C, as a static library: the whole-function call, and what `ghosts` prints of a text.
+// The calls for programs in Rust and C, as a static library: the whole-function call, what `ghosts` prints of a text, and the items of a
+// list of statements.
 ghost use mathlib.Core.Path.{_≡_};
 ghost use mathlib.Core.List.{_∷_};
 ghost use lib.ListN.{length, take};
 ghost use Rattle.model.specs.Replay.{Replayed};
-ghost use Rattle.model.specs.Promised.{One-of, whole-numbers, Answered};
+ghost use Rattle.model.specs.Promised.{One-of, whole-numbers, statement-numbers, Answered};
 ghost use Rattle.model.specs.Ghosts.{ghosts};
 ghost use Rattle.answer.specs.Said.{Printed};
-ghost use Rattle.exports.specs.Answers.{Exported};
+ghost use Rattle.exports.specs.Answers.{Exported, Exported-items};
+use assign::Items;
+use assign::statement_items;
 use fold_unfold::Ghosts;
 use fold_unfold::ghost_statements;
 
@@ -38,4 +41,17 @@ pub extern "C" fn exports_ghosts(bytes: &[u8], text: &mut [u8; 14336]) -> usize
     ensures answered { λ r. ⌜ Answered (take r (now (text .exit))) ⌝ }
 {
     answer::ghosts(bytes, text)
+}
+
+// The items that a list of statements gives: 0, or the refusal. Accepted: count, op[], arg[], then zeros. A refusal leaves zeros.
+#[no_mangle]
+pub extern "C" fn exports_statement_items(list: &[u32], out: &mut [u32]) -> u32
+    ensures { λ r. ⌜ Exported-items (now (list .entry)) (length (now (out .entry))) (now (out .exit)) r ⌝ }
+    ensures numbered { λ r. ⌜ One-of (0 ∷ statement-numbers) r ⌝ }
+{
+    let g = statement_items(list, out);
+    match g {
+        Items::Refused(n) => n,
+        Items::Done(_) => 0,
+    }
 }

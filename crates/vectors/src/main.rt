@@ -5,6 +5,7 @@ ghost use lib.ListN.{length};
 ghost use Rattle.stream.specs.Filled.{Filled};
 
 mod checks;
+mod items;
 mod lists;
 mod places;
 mod states;
@@ -31,6 +32,7 @@ fn answer(words: &[u32]) {
         2 => checks::function(rest),
         3 => whole::call(rest),
         4..=7 => places::call(call, rest),
+        12 => items::call(rest),
         _ => states::call(call, rest),
     }
     print_text(b"\n");

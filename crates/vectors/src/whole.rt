@@ -19,14 +19,14 @@ fn store() -> [u16; 16384]
     [7; 16384]
 }
 
-fn buffer() -> [u32; 4096]
+pub fn buffer() -> [u32; 4096]
     ensures { λ r. ⌜ length r ≡ 4096 ⌝ }
 {
     [7; 4096]
 }
 
 // How much is lent.
-fn least(n: u32, most: usize) -> usize
+pub fn least(n: u32, most: usize) -> usize
     ensures { λ r. ⌜ r ≤ most ⌝ }
 {
     let k = wide(n);

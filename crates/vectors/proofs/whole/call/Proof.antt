@@ -1,11 +1,6 @@
 -- `vectors::whole::call` meets its contract. Assumes nothing.
 use borrow.Author.Needs.{needs}
-use mathlib.Core.Path.{_≡_, sym}
-use mathlib.Core.List.{List}
-use Prim.Native.Nat.{ℕ, _≤_}
-use native.Mathlib.Omega.{arith}
-use lib.ListN.{length, take}
-use lib.Seq.{length-take-le}
+use Rattle.vectors.proofs.Fronts.{front}
 use Rattle.vectors.proofs.whole.call.Statement.{statement}
 use Rattle.vectors.proofs.whole.call.Tie as tie
 use Rattle.vectors.proofs.whole.call.Reads as reads
@@ -17,10 +12,6 @@ use Rattle.vectors.proofs.whole.answered.Reads as answered-reads
 use Rattle.vectors.proofs.whole.buffer.Reads as buffer-reads
 use Rattle.vectors.proofs.whole.least.Reads as least-reads
 use Rattle.vectors.proofs.whole.store.Reads as store-reads
-
--- a front that is lent is as long as is said
-front : {n m : ℕ} (l : List ℕ) → n ≤ m → length l ≡ m → n ≡ length (take n l)
-front {n} {m} l h e = sym (length-take-le n l (omega arith))
 
 -- src/whole.rt:56:21
 store-requires : tie.Need-store-requires
