@@ -9,7 +9,8 @@
 //! variant V                   of downcast;  in_mut_ref 0|1 of join_nodes
 //! arg_count A                 of collect_folds_at_ret
 //! room F W O                  lengths of the lent arrays: store forms, store whats, output;
-//!                             of a collecting call: O alone
+//!                             of a collecting call and of statement_items: O alone
+//! list W..                    a list of statements, of statement_items
 //! input B..                   the bytes on standard input of `ghosts`
 //! answer accepted W..  or  answer refused N
 //! out W..                     the output
@@ -20,8 +21,9 @@
 //! ```
 //!
 //! The words after `accepted`: of `function` the number of join points; of `whole` and the
-//! collecting calls statements and entries; of `projection` 0 nothing, 1 fold, or 2 and the
-//! number of elements to record; of `join` the flag; of `join_nodes` both flags.
+//! collecting calls statements and entries; of `statement_items` the number of items; of `projection`
+//! 0 nothing, 1 fold, or 2 and the number of elements to record; of `join` the flag; of `join_nodes`
+//! both flags.
 //! State arrays, `out` and shares are written without the zeros at their end, and a share that
 //! is all zero isn't written. After a refusal all that was lent is zero, and states are as they
 //! came.
@@ -35,6 +37,7 @@ use crate::{
     ghosts::ghosts,
     refusal::Refusal,
     state::{trimmed, State, MAX_NODES},
+    statements::statement_items,
     types::Types,
 };
 
@@ -57,6 +60,8 @@ pub enum Call {
     CollectFoldUnfolds,
     CollectUnfolds,
     CollectFoldsAtRet,
+    /// `statements::statement_items`.
+    StatementItems,
 }
 
 impl Call {
@@ -87,6 +92,7 @@ impl Call {
             Call::CollectFoldUnfolds => "collect_fold_unfolds",
             Call::CollectUnfolds => "collect_unfolds",
             Call::CollectFoldsAtRet => "collect_folds_at_ret",
+            Call::StatementItems => "statement_items",
         }
     }
 
@@ -117,6 +123,8 @@ pub struct Case {
     pub number: u32,
     pub room: Vec<usize>,
     pub input: Vec<u8>,
+    /// Statements.
+    pub list: Vec<u32>,
 }
 
 /// An answer: the refusal or the words after `accepted`, then the lines that follow.
@@ -138,6 +146,7 @@ impl Case {
             number: 0,
             room: vec![],
             input: vec![],
+            list: vec![],
         }
     }
 
@@ -147,6 +156,10 @@ impl Case {
 
     pub fn ghosts(input: &[u8]) -> Case {
         Case { input: input.to_vec(), ..Case::new(Call::Ghosts) }
+    }
+
+    pub fn statement_items(list: Vec<u32>, room: usize) -> Case {
+        Case { list, room: vec![room], ..Case::new(Call::StatementItems) }
     }
 
     pub fn set_place(&mut self, items: &[(u32, u32)]) {
@@ -184,17 +197,22 @@ impl Case {
             }
             Call::Join => self.answer_join(),
             Call::JoinNodes => self.answer_join_nodes(),
-            Call::CollectFoldUnfolds => self.answer_collect(|out| {
+            Call::CollectFoldUnfolds => self.answer_lent(|out| {
                 let [first, second] = &self.states[..] else { panic!("two states") };
                 calls::collect_fold_unfolds(&self.types, &self.locals, first, second, out)
+                    .map(counted)
             }),
-            Call::CollectUnfolds => self.answer_collect(|out| {
-                calls::collect_unfolds(&self.types, &self.locals, &self.states[0], out)
+            Call::CollectUnfolds => self.answer_lent(|out| {
+                calls::collect_unfolds(&self.types, &self.locals, &self.states[0], out).map(counted)
             }),
-            Call::CollectFoldsAtRet => self.answer_collect(|out| {
+            Call::CollectFoldsAtRet => self.answer_lent(|out| {
                 let args = self.number as usize;
                 calls::collect_folds_at_ret(&self.types, &self.locals, args, &self.states[0], out)
+                    .map(counted)
             }),
+            Call::StatementItems => {
+                self.answer_lent(|out| statement_items(&self.list, out).map(|count| vec![count]))
+            }
         }
     }
 
@@ -223,7 +241,7 @@ impl Case {
                 }
             }
         }
-        Answer { result: result.map(|(statements, entries)| vec![statements, entries]), lines }
+        Answer { result: result.map(counted), lines }
     }
 
     fn answer_ghosts(&self) -> Answer {
@@ -263,17 +281,15 @@ impl Case {
         }
     }
 
-    fn answer_collect(
-        &self,
-        call: impl FnOnce(&mut [u32]) -> Result<calls::Counts, Refusal>,
-    ) -> Answer {
+    /// Of a call to which the output alone is lent.
+    fn answer_lent(&self, call: impl FnOnce(&mut [u32]) -> Result<Vec<usize>, Refusal>) -> Answer {
         let mut out = vec![0xaaaa_aaaa; self.room[0]];
         let result = call(&mut out);
         let mut lines = String::new();
         if result.is_ok() {
             push_line(&mut lines, "out", trimmed(&out));
         }
-        Answer { result: result.map(|(statements, entries)| vec![statements, entries]), lines }
+        Answer { result, lines }
     }
 
     /// The lines of the input.
@@ -282,6 +298,11 @@ impl Case {
         let text = &mut lines;
         if self.call == Call::Ghosts {
             push_line(text, "input", &self.input);
+            return lines;
+        }
+        if self.call == Call::StatementItems {
+            push_line(text, "list", &self.list);
+            push_line(text, "room", &self.room);
             return lines;
         }
         push_line(text, "types", &self.types);
@@ -336,6 +357,10 @@ const REFUSALS: [Refusal; 10] = [
     Refusal::StateFull,
     Refusal::ShortStore,
 ];
+
+fn counted((statements, entries): calls::Counts) -> Vec<usize> {
+    vec![statements, entries]
+}
 
 fn plain(result: Result<Vec<usize>, Refusal>) -> Answer {
     Answer { result, lines: String::new() }

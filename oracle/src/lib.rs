@@ -19,12 +19,14 @@ pub mod place;
 pub mod place_node;
 /// The blocks that wait.
 pub mod queue;
-/// The ten refusals.
+/// The refusals.
 pub mod refusal;
 /// The replay of recorded statements along a list of jumps.
 pub mod replay;
 /// The state record and refusal 3.
 pub mod state;
+/// MIR statements as they are, and the items that they give.
+pub mod statements;
 /// The type record and refusal 1.
 pub mod types;
 

@@ -1,4 +1,4 @@
-//! The ten refusals of document 01, by number.
+//! The refusals of documents 01 and 02, by number.
 
 #[derive(Clone, Copy, PartialEq, Eq, PartialOrd, Ord, Hash, Debug)]
 pub enum Refusal {
@@ -12,6 +12,7 @@ pub enum Refusal {
     NoSuchValue = 8,
     StateFull = 9,
     ShortStore = 10,
+    UnknownStatement = 11,
 }
 
 impl Refusal {

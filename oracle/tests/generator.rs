@@ -13,7 +13,7 @@ fn some(kind: Kind, size: Size, want: u32, count: usize) -> Vec<Case> {
 }
 
 /// Which refusals each call can give.
-const GIVES: [(Call, &[u32]); 13] = [
+const GIVES: [(Call, &[u32]); 14] = [
     (Call::Whole, &[0, 1, 2, 4, 5, 6, 8, 9, 10]),
     (Call::Types, &[0, 1]),
     (Call::Function, &[0, 1, 2, 4]),
@@ -27,6 +27,7 @@ const GIVES: [(Call, &[u32]); 13] = [
     (Call::CollectFoldUnfolds, &[0, 1, 3, 6, 7, 10]),
     (Call::CollectUnfolds, &[0, 1, 3, 7, 10]),
     (Call::CollectFoldsAtRet, &[0, 1, 3, 10]),
+    (Call::StatementItems, &[0, 2, 10, 11]),
 ];
 
 #[test]
@@ -77,7 +78,7 @@ fn the_usual_mix() {
 
 #[test]
 fn the_same_seed_gives_the_same_cases() {
-    for kind in ["whole", "types", "function", "items", "ghosts", "states"] {
+    for kind in ["whole", "types", "function", "items", "ghosts", "statement_items", "states"] {
         let kind = Kind::from_name(kind).expect("a kind");
         let cases = || {
             let mut rng = Rng::new(7);

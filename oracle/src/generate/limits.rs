@@ -43,7 +43,7 @@ pub fn limits() -> Vec<Named> {
 }
 
 /// One below, at it, one above.
-fn round(limit: usize) -> [usize; 3] {
+pub(super) fn round(limit: usize) -> [usize; 3] {
     [limit - 1, limit, limit + 1]
 }
 

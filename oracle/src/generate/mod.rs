@@ -9,6 +9,7 @@ pub mod limits;
 pub mod places;
 pub mod requests;
 pub mod rng;
+pub mod statements;
 pub mod states;
 pub mod types;
 pub mod whole;
@@ -45,7 +46,7 @@ impl Kind {
             "words" => return Some(Kind::Words),
             _ => {}
         }
-        let calls = [Call::Types, Call::Function, Call::Whole, Call::Ghosts];
+        let calls = [Call::Types, Call::Function, Call::Whole, Call::Ghosts, Call::StatementItems];
         let mut calls = calls.into_iter().chain(Call::ON_STATES);
         calls.find(|call| call.name() == name).map(Kind::Call)
     }
@@ -77,6 +78,7 @@ fn any(rng: &mut Rng, kind: Kind, size: Size) -> Case {
         Kind::Call(Call::Types) => whole::types_case(rng, size),
         Kind::Call(Call::Function) => whole::function_case(rng, size),
         Kind::Call(Call::Ghosts) => whole::ghosts_case(rng, size),
+        Kind::Call(Call::StatementItems) => statements::statements_case(rng, size),
         Kind::Call(Call::Whole) => unreachable!("made by `whole_case`"),
         Kind::Call(call) => states::random_case(rng, call, size),
     }

@@ -3,6 +3,7 @@
 use super::{
     draft::{push_note, push_return, push_switch, push_use, Draft},
     limits::{root, whole, Named},
+    statements::lists,
     types::TypeList,
 };
 use crate::{
@@ -13,6 +14,7 @@ use PlaceElem::{Deref, Downcast, Field, Index};
 
 pub fn requests(cases: &mut Vec<Named>) {
     elements(cases);
+    lists(cases);
 }
 
 const ARRAY: Ty = 1;
