@@ -20,6 +20,13 @@ mod foreign {
 
         /// An array is passed as its pointer.
         pub fn exports_ghosts(bytes: *const u8, bytes_len: usize, text: *mut u8) -> usize;
+
+        pub fn exports_statement_items(
+            list: *const u32,
+            list_len: usize,
+            out: *mut u32,
+            out_len: usize,
+        ) -> u32;
     }
 }
 
@@ -58,6 +65,15 @@ pub fn exported_ghosts(bytes: &[u8], text: &mut [u8; PAGE]) -> usize {
     // SAFETY: As above: a pointer and its length, and a pointer to an array of as many bytes as the call
     // takes it for.
     unsafe { foreign::exports_ghosts(bytes.as_ptr(), bytes.len(), text.as_mut_ptr()) }
+}
+
+/// The items of a list of statements, as they are lent; 0 or the refusal.
+pub fn exported_statement_items(list: &[u32], out: &mut [u32]) -> u32 {
+    // SAFETY: As above, of two slices. It has no array of its own and doesn't call itself, so that any
+    // thread has stack enough.
+    unsafe {
+        foreign::exports_statement_items(list.as_ptr(), list.len(), out.as_mut_ptr(), out.len())
+    }
 }
 
 /// Room for what `ghosts` prints.

@@ -1,6 +1,11 @@
 //! A function record in the making.
 
-use crate::{place::Place, types::Type};
+use crate::{
+    assign::{statement_items, statement_list, Assign, Items},
+    place::Place,
+    refusal::Refusal,
+    types::Type,
+};
 
 type Item = (u32, u32);
 
@@ -25,7 +30,7 @@ impl Label {
 }
 
 /// A block that is being written. It offers what may come next, and nothing else: a use, a read
-/// with its note, or an ender, after which there is only a [`Block`] to hand over.
+/// with its note, statements, or an ender, after which there is only a [`Block`] to hand over.
 ///
 /// ```compile_fail
 /// use hirvoksne::{Open, Place};
@@ -95,6 +100,52 @@ impl Open {
     /// Reads the discriminant of a place, which the note then puts into another.
     pub fn read(self, place: &Place) -> Read {
         Read { items: with_place(self.items, place, READ) }
+    }
+
+    /// The items of a list of statements.
+    pub fn items(mut self, items: &Items) -> Open {
+        self.items.extend(items.as_slice());
+        self
+    }
+
+    /// MIR statements, by the items that they give. The only refusal is [`Refusal::BadFunction`], for
+    /// over 16,384 items.
+    ///
+    /// ```
+    /// use hirvoksne::{ghost_statements, Assign, Function, Open, Operand, Place, Rvalue, Types};
+    ///
+    /// // fn restore(timer: &mut Timer, value: u64), with enum Timer { Off, At { left: u64, next: u64 } }
+    /// let mut types = Types::new();
+    /// let int = types.opaque();
+    /// let off = types.variant(0, &[]);
+    /// let at = types.variant(1, &[int, int]);
+    /// let timer = types.enumeration(&[off, at]);
+    /// let timer = types.mut_ref(timer);
+    ///
+    /// let mut function = Function::new(int, &[timer, int], &[int, int]);
+    /// let [start, armed, done] = function.blocks();
+    /// let (value, kind, sum) = (Place::local(2), Place::local(3), Place::local(4));
+    /// let timer = Place::local(1).deref();
+    /// let [left, next] = [0, 1].map(|field| timer.clone().downcast(1).field(field));
+    /// // _3 = discriminant(*_1); match
+    /// let seen = Open::new().statements(&[Assign::new(kind.clone(), Rvalue::Discriminant(timer))])?;
+    /// function.write(start, seen.switch(&kind).arm(1, armed).otherwise(done));
+    /// // _4 = left + value; next = _4; left = 0
+    /// let list = [
+    ///     Assign::new(sum.clone(), Rvalue::BinaryOp(left.clone().into(), value.into())),
+    ///     Assign::new(next, Rvalue::Use(sum.into())),
+    ///     Assign::new(left, Rvalue::Use(Operand::Constant)),
+    /// ];
+    /// function.write(armed, Open::new().statements(&list)?.goto(done));
+    /// function.write(done, Open::new().ret());
+    ///
+    /// let statements = ghost_statements(&types.record(), &function.record())?;
+    /// let lines = ["at 2 unfold _1", "at 31 fold _1.*", "at 9 fold _1.*", "at 32 fold _1.*"];
+    /// assert_eq!(statements.to_string().lines().collect::<Vec<_>>(), lines);
+    /// # Ok::<(), hirvoksne::Refusal>(())
+    /// ```
+    pub fn statements(self, statements: &[Assign]) -> Result<Open, Refusal> {
+        Ok(self.items(&statement_items(&statement_list(statements))?))
     }
 
     /// Goes on to a block.

@@ -23,6 +23,7 @@
 
 #![deny(unsafe_code)]
 
+mod assign;
 mod exported_call;
 mod function;
 mod place;
@@ -32,6 +33,9 @@ mod stack;
 mod statements;
 mod types;
 
+pub use assign::{
+    statement_items, statement_items_into, statement_list, Assign, Items, Operand, Rvalue,
+};
 pub use function::{Block, Function, Label, Open, Read, Switch};
 pub use place::{Elem, Place};
 pub use refusal::Refusal;

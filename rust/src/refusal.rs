@@ -1,8 +1,8 @@
-//! The ten refusals of document 01.
+//! The refusals of documents 01 and 02.
 
 use std::{error::Error, fmt};
 
-/// Why a function was refused, with document 01's number and word.
+/// Why a function, or a list of statements, was refused, with its number and word.
 ///
 /// ```
 /// let refusal = hirvoksne::ghost_statements(&[], &[]).unwrap_err();
@@ -25,11 +25,13 @@ pub enum Refusal {
     StateFull = 9,
     /// Only where the caller lends the buffers: [`crate::ghost_statements_into`].
     ShortStore = 10,
+    /// Of lists of statements alone: [`crate::statement_items`].
+    UnknownStatement = 11,
 }
 
 impl Refusal {
-    /// All ten, in the order of their numbers.
-    pub const ALL: [Refusal; 10] = [
+    /// All of them, in the order of their numbers.
+    pub const ALL: [Refusal; 11] = [
         Refusal::BadTypes,
         Refusal::BadFunction,
         Refusal::BadState,
@@ -40,9 +42,10 @@ impl Refusal {
         Refusal::NoSuchValue,
         Refusal::StateFull,
         Refusal::ShortStore,
+        Refusal::UnknownStatement,
     ];
 
-    /// The number of document 01's table, 1 to 10.
+    /// Its number: 1 to 10 of document 01's table, 11 of document 02.
     pub fn number(self) -> u32 {
         self as u32
     }
@@ -52,7 +55,7 @@ impl Refusal {
         Refusal::ALL.into_iter().find(|refusal| refusal.number() == number)
     }
 
-    /// The word of document 01's table.
+    /// Its word there.
     pub fn word(self) -> &'static str {
         match self {
             Refusal::BadTypes => "bad types",
@@ -65,14 +68,15 @@ impl Refusal {
             Refusal::NoSuchValue => "no such value",
             Refusal::StateFull => "state full",
             Refusal::ShortStore => "short store",
+            Refusal::UnknownStatement => "unknown statement",
         }
     }
 
-    /// When it is given, shortened from document 01's table.
+    /// When it is given, shortened.
     pub fn when(self) -> &'static str {
         match self {
             Refusal::BadTypes => "the type record breaks its layout",
-            Refusal::BadFunction => "the function record breaks its layout",
+            Refusal::BadFunction => "the function record or the list of statements breaks its layout",
             Refusal::BadState => "the state record breaks its layout or doesn't fit the types",
             Refusal::BadPlace => {
                 "an unknown local, too many elements, or a used place that ends in downcast"
@@ -86,7 +90,10 @@ impl Refusal {
             }
             Refusal::NoSuchValue => "an arm's value belongs to no variant left",
             Refusal::StateFull => "a state would have over 512 nodes",
-            Refusal::ShortStore => "a lent store or statement buffer is too short",
+            Refusal::ShortStore => "a lent store, statement buffer or item buffer is too short",
+            Refusal::UnknownStatement => {
+                "a statement of no known kind, flag or operand count, or a constant for a place"
+            }
         }
     }
 }

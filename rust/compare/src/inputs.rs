@@ -1,6 +1,6 @@
 //! Functions to measure, each as its type record and its function record.
 
-use hirvoksne::{Elem, Function, Label, Open, Place, Types};
+use hirvoksne::{Assign, Elem, Function, Label, Open, Operand, Place, Rvalue, Types};
 use oracle::generate::{random, rng::Rng, Kind, Size};
 use oracle::{
     case::Call,
@@ -172,6 +172,29 @@ pub fn many_types() -> Input {
     let input = Input::new(&types, &function);
     assert_eq!(input.types[..2], [MAX_TYPES as u32, 14_322]);
     input
+}
+
+/// So many statements: all kinds in turn, over places of one element.
+pub fn assigns(count: usize) -> Vec<Assign> {
+    let statement = |n: usize| {
+        let place = |k: usize| Place::local(1 + ((n + k) % 7) as u32).field((n % 3) as u32);
+        let operand = |k: usize| Operand::from(place(k));
+        let rvalue = match n % 11 {
+            0 => Rvalue::Use(operand(1)),
+            1 => Rvalue::Repeat(Operand::Constant),
+            2 => Rvalue::Ref(place(1)),
+            3 => Rvalue::FakeRef(place(1)),
+            4 => Rvalue::RawPtr(place(1)),
+            5 => Rvalue::Cast(operand(1)),
+            6 => Rvalue::BinaryOp(operand(1), Operand::Constant),
+            7 => Rvalue::UnaryOp(operand(1)),
+            8 => Rvalue::PtrMetadata(operand(1)),
+            9 => Rvalue::Discriminant(place(1)),
+            _ => Rvalue::Aggregate(vec![operand(1)]),
+        };
+        Assign::new(place(0), rvalue)
+    };
+    (0..count).map(statement).collect()
 }
 
 #[cfg(test)]

@@ -6,14 +6,17 @@
 //! bench [--only NAME] [--repeats N]
 //! bench --only NAME --side library|transcription --calls N    for a profiler: these calls alone
 //! ```
+//!
+//! The second table is of lists of statements, whose items both sides write into a buffer that is just
+//! long enough.
 
 use std::{hint::black_box, time::Instant};
 
 use compare::{
-    inputs::{items, large, many_types, match_chain, rounds, small, Input},
+    inputs::{assigns, items, large, many_types, match_chain, rounds, small, Input},
     options::Options,
 };
-use hirvoksne::SHARE;
+use hirvoksne::{statement_list, SHARE};
 
 /// One side's call over what is lent.
 type Side = fn(&Input, &mut Lent) -> Result<(usize, usize), u32>;
@@ -63,28 +66,9 @@ impl Bench {
         }
     }
 
-    /// The median times of a run by each side, in microseconds per call, and the median ratio. The
-    /// sides take turns, so that what else the machine does falls on both.
-    fn medians(&mut self, repeats: usize) -> [f64; 3] {
-        let mut times = [vec![], vec![], vec![]];
-        for _ in 0..repeats {
-            let [library, transcription] = SIDES.map(|(_, side)| {
-                let start = Instant::now();
-                self.run(side);
-                start.elapsed().as_secs_f64() * 1e6 / self.calls.len() as f64
-            });
-            times[0].push(library);
-            times[1].push(transcription);
-            times[2].push(library / transcription);
-        }
-        times.map(|mut times| {
-            times.sort_by(f64::total_cmp);
-            times[times.len() / 2]
-        })
-    }
-
     fn print(&mut self, repeats: usize) {
-        let [library, transcription, ratio] = self.medians(repeats);
+        let calls = self.calls.len();
+        let [library, transcription, ratio] = medians(repeats, calls, |at| self.run(SIDES[at].1));
         let mean = |size: fn(&(Input, Lent)) -> usize| {
             self.calls.iter().map(size).sum::<usize>() / self.calls.len()
         };
@@ -96,6 +80,46 @@ impl Bench {
             self.name, self.what
         );
     }
+}
+
+/// The median times of a run by each side, in microseconds per call, and the median ratio. The sides
+/// take turns, so that what else the machine does falls on both.
+fn medians(repeats: usize, calls: usize, mut run: impl FnMut(usize)) -> [f64; 3] {
+    let mut times = [vec![], vec![], vec![]];
+    for _ in 0..repeats {
+        let [library, transcription] = [0, 1].map(|side| {
+            let start = Instant::now();
+            run(side);
+            start.elapsed().as_secs_f64() * 1e6 / calls as f64
+        });
+        times[0].push(library);
+        times[1].push(transcription);
+        times[2].push(library / transcription);
+    }
+    times.map(|mut times| {
+        times.sort_by(f64::total_cmp);
+        times[times.len() / 2]
+    })
+}
+
+/// A list of so many statements, by all kinds in turn.
+fn print_list(statements: usize, repeats: usize) {
+    let list = statement_list(&assigns(statements));
+    let items = hirvoksne::statement_items(&list).expect("accepted").as_slice().len();
+    let mut out = vec![0; 1 + 2 * items];
+    let [library, transcription, ratio] = medians(repeats, 1, |side| {
+        let list = black_box(&list);
+        let given = match side {
+            0 => hirvoksne::statement_items_into(list, &mut out).ok(),
+            _ => oracle::statements::statement_items(list, &mut out).ok(),
+        };
+        assert_eq!(black_box(given), Some(items));
+    });
+    let words = list.len();
+    println!(
+        "| list-{statements} | {words} | {items} | {library:.1} | {transcription:.1} | {ratio:.2} | {:.1} |",
+        library * 1e3 / words as f64
+    );
 }
 
 /// What is measured: its name, what it is, and its inputs.
@@ -130,4 +154,11 @@ fn main() {
     );
     println!("|---|---|---|---|---|---|---|---|---|");
     benches.by_ref().for_each(|mut bench| bench.print(repeats));
+    if only.is_empty() {
+        println!(
+            "\n| name | words | items given | library µs | transcription µs | ratio | ns a word |"
+        );
+        println!("|---|---|---|---|---|---|---|");
+        [512, 1024, 2048, 4096].into_iter().for_each(|statements| print_list(statements, repeats));
+    }
 }

@@ -1,11 +1,12 @@
 //! The library against the transcription: the same words in, the same words out, to the last:
 //! refusal, counts, both store arrays and the buffer; then the safe call, whose answer and text are
-//! compared too.
+//! compared too. So with lists of statements: refusal, count and buffer, and the safe call's items.
 //!
 //! ```text
-//! compare [--seed S] [--count N]    the cases round each limit, then N random and damaged ones, then
-//!                                   texts for `ghosts`, a tenth as many
-//! compare --exhaustive              all short records over a few words, all small functions
+//! compare [--seed S] [--count N]    the cases round each limit, then N random and damaged ones; the
+//!                                   same of lists of statements; then texts for `ghosts`, a tenth as
+//!                                   many
+//! compare --exhaustive              all short records and lists over a few words, all small functions
 //! ```
 //!
 //! The first difference ends the run with its input. The second run also fails if it accepts too few
@@ -46,7 +47,9 @@ fn main() {
         all_short(&mut tally);
     } else {
         limits_and_random(&mut tally, seed, count);
-        tally.part(&format!("limits, and {count} cases of seed {seed}"));
+        tally.part(&format!("limits, and {count} cases of seed {seed}"), "statements");
+        lists(&mut tally, seed, count);
+        tally.part(&format!("limits, and {count} lists of seed {seed}"), "items");
         texts(&mut tally, seed, count / 10);
     }
     println!("{} cases, no difference, {:.1?}", tally.cases, start.elapsed());
@@ -57,18 +60,9 @@ fn main() {
 struct Tally {
     /// In the whole run.
     cases: u64,
-    answers: [u64; 11],
-    statements: u64,
-}
-
-impl std::fmt::Display for Tally {
-    fn fmt(&self, f: &mut std::fmt::Formatter<'_>) -> std::fmt::Result {
-        let [accepted, refused @ ..] = &self.answers;
-        write!(f, "accepted {accepted} ({} statements); refused", self.statements)?;
-        let counts = refused.iter().enumerate().filter(|(_, &count)| count > 0);
-        let counts: Vec<_> = counts.map(|(at, count)| format!("{}: {count}", at + 1)).collect();
-        write!(f, " {}", if counts.is_empty() { "none".to_string() } else { counts.join(", ") })
-    }
+    answers: [u64; 12],
+    /// Statements, or items.
+    given: u64,
 }
 
 /// The words of one call.
@@ -137,9 +131,12 @@ fn word<W: PartialEq + Debug>(name: &str, library: &[W], oracle: &[W]) -> Option
 
 impl Tally {
     /// Prints how often each answer came up since the last time; how many were accepted.
-    fn part(&mut self, what: &str) -> u64 {
-        println!("{what}: {self}");
-        let accepted = self.answers[0];
+    fn part(&mut self, what: &str, unit: &str) -> u64 {
+        let [accepted, refused @ ..] = self.answers;
+        let counts = (1..).zip(refused).filter(|&(_, count)| count > 0);
+        let counts: Vec<_> = counts.map(|(number, count)| format!("{number}: {count}")).collect();
+        let refused = if counts.is_empty() { "none".to_string() } else { counts.join(", ") };
+        println!("{what}: accepted {accepted} ({} {unit}); refused {refused}", self.given);
         *self = Tally { cases: self.cases, ..Tally::default() };
         accepted
     }
@@ -152,7 +149,7 @@ impl Tally {
         }
         let answer = oracle.answer.map(|_| {
             let statements = GhostStatements::from_record(&oracle.out).expect("a record");
-            self.statements += statements.len() as u64;
+            self.given += statements.len() as u64;
             statements.to_string()
         });
         let number = *answer.as_ref().err().unwrap_or(&0);
@@ -167,6 +164,43 @@ impl Tally {
         self.answers[number as usize] += 1;
         self.cases += 1;
     }
+}
+
+impl Tally {
+    /// Compares the items of a list, in a buffer of so many words; then the safe call with them.
+    fn compare_list(&mut self, list: &[u32], room: usize) {
+        let (mut out, mut expected) = (vec![0x5555_5555; room], vec![0xaaaa_aaaa; room]);
+        let library = hirvoksne::statement_items_into(list, &mut out);
+        let library = library.map_err(|refusal| refusal.number());
+        let oracle = oracle::statements::statement_items(list, &mut expected);
+        let oracle = oracle.map_err(|refusal| refusal.number());
+        if library != oracle || out != expected {
+            differ_list(
+                list,
+                &format!("library {library:?} {out:?}\noracle {oracle:?} {expected:?}"),
+            );
+        }
+        let number = *oracle.as_ref().err().unwrap_or(&0);
+        if number != 10 {
+            let safe = hirvoksne::statement_items(list).map_err(|refusal| refusal.number());
+            let safe = safe.map(|items| items.as_slice().to_vec());
+            let items = oracle.map(|count| {
+                let (ops, args) = expected[1..1 + 2 * count].split_at(count);
+                ops.iter().copied().zip(args.iter().copied()).collect::<Vec<_>>()
+            });
+            if safe != items {
+                differ_list(list, &format!("safe {safe:?}\noracle {items:?}"));
+            }
+        }
+        self.given += oracle.unwrap_or(0) as u64;
+        self.answers[number as usize] += 1;
+        self.cases += 1;
+    }
+}
+
+fn differ_list(list: &[u32], found: &str) -> ! {
+    eprintln!("a difference, of the list {list:?}\n{found}");
+    exit(1)
 }
 
 fn differ(number: u64, input: &Input, found: &str) -> ! {
@@ -192,6 +226,21 @@ fn limits_and_random(tally: &mut Tally, seed: u64, count: u64) {
                 tally.compare(&Input::of(&case));
             }
         }
+    }
+}
+
+/// Lists of statements: those round each limit, and so many random and damaged ones.
+fn lists(tally: &mut Tally, seed: u64, count: u64) {
+    let kind = Kind::Call(Call::StatementItems);
+    let limits = limits().into_iter().map(|(_, case)| case);
+    for case in limits.filter(|case| case.call == Call::StatementItems) {
+        tally.compare_list(&case.list, case.room[0]);
+    }
+    let mut rng = Rng::new(seed);
+    for _ in 0..count {
+        let size = rng.weighted(&[(30, Size::Small), (60, Size::Normal), (10, Size::Large)]);
+        let case = random(&mut rng, kind, size, None).expect("any list will do");
+        tally.compare_list(&case.list, case.room[0]);
     }
 }
 
@@ -276,10 +325,10 @@ fn all_short(tally: &mut Tally) {
     let room = room(0);
     let words = [0, 1, 2, 3, 4, 5, 6, 7, 8, 9, 10, u32::MAX];
     each_list(&words, 6, |types| tally.compare(&Input { types, function: &RETURNS, room }));
-    tally.part("type records of up to 6 words");
+    tally.part("type records of up to 6 words", "statements");
     let words = [0, 1, 2, 4, 10, 11, u32::MAX];
     each_list(&words, 6, |function| tally.compare(&Input { types: &OPAQUE, function, room }));
-    let accepted = tally.part("function records of up to 6 words")
+    let accepted = tally.part("function records of up to 6 words", "statements")
         + any_layouts(tally)
         + short_blocks(tally)
         + small_functions(tally);
@@ -288,6 +337,9 @@ fn all_short(tally: &mut Tally) {
         eprintln!("there should be {LEAST_ACCEPTED} at least");
         exit(1)
     }
+    let words = [0, 1, 2, 3, 6, 7, 8, 9, u32::MAX];
+    each_list(&words, 7, |list| tally.compare_list(list, 16));
+    tally.part("lists of up to 7 words", "items");
 }
 
 /// Room for so many join points and some statements.
@@ -310,7 +362,7 @@ fn any_layouts(tally: &mut Tally) -> u64 {
             tally.compare(&Input { types: &PAIR, function, room: room(b as usize) });
         });
     }
-    tally.part("function records of 1 or 2 locals, blocks and items")
+    tally.part("function records of 1 or 2 locals, blocks and items", "statements")
 }
 
 /// Well-formed functions over one struct: of one block with up to 3 uses, of two with up to 2 each, of
@@ -324,7 +376,7 @@ fn small_functions(tally: &mut Tally) -> u64 {
             tally.compare(&Input { types: &OUTER, function: &draft.words(), room: room(blocks) });
         });
     }
-    tally.part("functions of up to 3 blocks")
+    tally.part("functions of up to 3 blocks", "statements")
 }
 
 /// All blocks of such a function: uses of the struct, of a field and of a field of that; and each ender.
@@ -362,7 +414,7 @@ fn short_blocks(tally: &mut Tally) -> u64 {
         function.extend(items.iter().map(|(_, arg)| arg));
         tally.compare(&Input { types: &PAIR, function: &function, room: room(1) });
     });
-    tally.part("blocks of up to 5 items")
+    tally.part("blocks of up to 5 items", "statements")
 }
 
 /// All lists of up to `most` of these, the shorter first.
