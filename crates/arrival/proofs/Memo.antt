@@ -6,7 +6,7 @@ use native.Mathlib.Omega.{arith}
 use lib.ListN.{length, take, drop, set, replicate, length-set, length-take, length-drop, length-append, length-replicate}
 use lib.Seq.{take-set-le, drop-set-lt, getD-take, getD-drop, take-at, drop-at, length-take-le}
 use Rattle.model.specs.Words.{word}
-use Rattle.state.proofs.Copies.{take-replicate}
+use Rattle.base.specs.Equal.{take-replicate}
 use Rattle.statements.specs.Moved.{cleared}
 use Rattle.arrival.specs.Arrivals.{Shelved}
 use Rattle.arrival.specs.Shares.{kept-in, visited-in, Stores, Visited, Unvisited, arrays-in, Alike}

@@ -12,10 +12,11 @@ use Rattle.model.specs.Answer.{Answer, refused, done, _>>=_, require}
 use Rattle.model.specs.Assign.{Operand, Assign, read-list, places, items-in, operand-ok, operands-ok, statements-of}
 use Rattle.base.specs.Tests.{split, clash}
 use Rattle.base.specs.Answer.{split-answer}
+use Rattle.assign.specs.Operands.{operands-append}
 use Rattle.assign.specs.Words.{operand-at, operand-end, operands-at, operands-end, assign-at, assign-end}
 use Rattle.assign.specs.Checked.{place-end, places-end, is-read, list-ok}
-use Rattle.assign.proofs.Elements.{items-length}
-use Rattle.assign.proofs.Reading.{below, list-empty, list-more, one, operands-up, assign-read, list-ahead, First, ahead-first, assign-long}
+use Rattle.assign.proofs.Elements.{items-length, items-append}
+use Rattle.assign.proofs.Reading.{below, list-empty, list-more, one, operands-up, split-end, split-at, assign-read, list-ahead, First, ahead-first, assign-long}
 
 -- a test and true, and false
 and-true : (b : Bool) → b && true ≡ b
@@ -25,17 +26,6 @@ and-true false = refl
 and-false : (b : Bool) → b && false ≡ false
 and-false true = refl
 and-false false = refl
-
--- operands in a row
-ok-append : (ps qs : List Operand) → operands-ok (ps ++ qs) ≡ operands-ok ps && operands-ok qs
-unfolding operands-ok
-ok-append [] qs = refl
-ok-append (p ∷ ps) qs = split (operand-ok p) (λ e. cc (ok-append ps qs)) (λ e. cc)
-
-items-append : (ps qs : List Operand) → items-in (ps ++ qs) ≡ items-in ps + items-in qs
-unfolding items-in
-items-append [] qs = omega arith
-items-append (p ∷ ps) qs = omega (arith, items-append ps qs)
 
 -- twice the items, in words
 twice : (x : ℕ) → leb x 16384 ≡ leb (0 + 2 * x) 32768
@@ -151,13 +141,11 @@ module _ (ws : List ℕ) where
   -- k operands and one more
   more-end : (k at : ℕ) → operands-end ws (suc k) at ≡ operand-end ws (operands-end ws k at)
   unfolding operands-end
-  more-end zero at = refl
-  more-end (suc k) at = more-end k (operand-end ws at)
+  more-end k at = let z : suc k ≡ k + 1 = omega arith in ap (λ (n : ℕ). operands-end ws n at) z ∙ split-end ws k 1 at
 
   more-at : (k at : ℕ) → operands-at ws (suc k) at ≡ operands-at ws k at ++ (operand-at ws (operands-end ws k at) ∷ [])
   unfolding operands-at operands-end
-  more-at zero at = refl
-  more-at (suc k) at = ap (λ (l : List Operand). operand-at ws at ∷ l) (more-at k (operand-end ws at))
+  more-at k at = let z : suc k ≡ k + 1 = omega arith in ap (λ (n : ℕ). operands-at ws n at) z ∙ split-at ws k 1 at
 
   -- how many words they take
   operands-words : (k at : ℕ) → operands-end ws k at ≡ at + k + 2 * items-in (operands-at ws k at)
@@ -208,7 +196,7 @@ module _ (ws : List ℕ) where
       let k = suc (word ws (suc (suc at))) in
       let m : operands-end ws k (suc (suc (suc at))) ≤ length ws = omega (arith, F .inside, assign-ends at) in
       let b = places-bad k (suc (suc (suc at))) (omega arith) p m in
-      let o : operands-ok (places ss) ≡ false = rw (F .all, assign-places at, ok-append (operands-at ws k (suc (suc (suc at)))) (places (F .rest)), b) refl in
+      let o : operands-ok (places ss) ≡ false = rw (F .all, assign-places at, operands-append (operands-at ws k (suc (suc (suc at)))) (places (F .rest)), b) refl in
       rw (e, o) (and-false (leb (words + 2 * items-in (places ss)) 32768)))
 
   rest-good : (n at words : ℕ) {e : ℕ} → at < length ws → suc (suc (suc at)) ≤ length ws → places-end ws (suc (word ws (suc (suc at)))) (suc (suc (suc at))) ≡ suc e
@@ -226,7 +214,7 @@ module _ (ws : List ℕ) where
       (λ ts d.
       let ps = operands-at ws k s in
       let all : List Operand = (assign-at ws at) .operands ++ ((assign-at ws at) .destination ∷ []) in
-      let u : operands-ok (all ++ places ts) ≡ operands-ok (places ts) = rw (assign-places at) (ok-append ps (places ts) ∙ ap (λ (b : Bool). b && operands-ok (places ts)) o) in
+      let u : operands-ok (all ++ places ts) ≡ operands-ok (places ts) = rw (assign-places at) (operands-append ps (places ts) ∙ ap (λ (b : Bool). b && operands-ok (places ts)) o) in
       let v : items-in (all ++ places ts) ≡ items-in ps + items-in (places ts) = rw (assign-places at) (items-append ps (places ts)) in
       let w : words + 2 * items-in (all ++ places ts) ≡ words + (suc e - s - k) + 2 * items-in (places ts) = omega (arith, v, operands-words k s, f) in
       rw (q, d, u, w) refl)

@@ -6,7 +6,7 @@ use Prim.Native.Nat.{ℕ, zero, suc, _+_, _*_, _-_, _<_}
 use native.Mathlib.Omega.{arith}
 use lib.ListN.{length}
 use Rattle.model.specs.Words.{word}
-use Rattle.model.specs.Assign.{Operand}
+use Rattle.model.specs.Assign.{Operand, items-in}
 use Rattle.records.specs.Spots.{item-ok}
 use Rattle.assign.specs.Operands.{elements-ok}
 use Rattle.assign.specs.Words.{items-at}
@@ -56,3 +56,9 @@ module _ (ws : List ℕ) where
     elements-carried t =
         let a : at + 2 * i + 2 ≡ at + 2 * (i + 1) = omega arith in
         cc (elements-next (at + 2 * i) (n - i) (n - (i + 1)) (omega arith))
+
+-- how many items operands in a row have
+pub items-append : (ps qs : List Operand) → items-in (ps ++ qs) ≡ items-in ps + items-in qs
+unfolding items-in
+items-append [] qs = omega arith
+items-append (p ∷ ps) qs = omega (arith, items-append ps qs)

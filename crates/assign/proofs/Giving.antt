@@ -2,7 +2,7 @@
 use mathlib.Core.Path.{_≡_, refl, sym, ap, _∙_, subst}
 use mathlib.Core.Bool.{Bool, true, false, cond, _&&_}
 use mathlib.Core.List.{List, [], _∷_, _++_, append-assoc, append-nil}
-use Prim.Native.Nat.{ℕ, zero, suc, _+_, _-_, _≤_, _<_}
+use Prim.Native.Nat.{ℕ, suc, _+_, _-_, _≤_, _<_}
 use native.Mathlib.Omega.{arith}
 use lib.Dec.{eqb}
 use lib.ListN.{length, length-append}
@@ -13,9 +13,9 @@ use Rattle.model.specs.Assign.{Operand, operand-gives, operands-give, gives}
 use Rattle.assign.specs.Words.{operand-at, operand-end, operands-at, operands-end, destination-at, assign-at, assign-end}
 use Rattle.assign.specs.Puts.{moved, Room, Puts, acting}
 use Rattle.assign.specs.declared.give.Pen.{Pen}
-use Rattle.assign.proofs.Putting.{puts-none, puts-then, room-less, room-then}
+use Rattle.assign.proofs.Putting.{puts-none, puts-then, pen-from, room-less, room-then}
 use Rattle.assign.proofs.Placing.{puts-moved, room-moved}
-use Rattle.assign.proofs.Reading.{operands-up}
+use Rattle.assign.proofs.Reading.{operands-up, split-end, split-at}
 
 module _ (k f : ℕ) (p : Operand) {b : Bool} (e : b ≡ eqb k 2 && eqb f 1) where
   -- a fake borrow
@@ -52,19 +52,6 @@ pub given-fake : (ws : List ℕ) {out : List ℕ} {p q : Pen} {end : ℕ} {es : 
 given-fake ws {out} {p} {q} {end} {es} d e z = rw (z, ← one-end ws (p .from), ← d, e) (puts-none end)
 
 -- OPERANDS IN A ROW
-
-module _ (ws : List ℕ) where
-  split-end : (i m at : ℕ) → operands-end ws (i + m) at ≡ operands-end ws m (operands-end ws i at)
-  unfolding operands-end
-  split-end zero m at = let z : 0 + m ≡ m = omega arith in rw z refl
-  split-end (suc i) m at = let z : suc i + m ≡ suc (i + m) = omega arith in rw z (split-end i m (operand-end ws at))
-
-  split-at : (i m at : ℕ) → operands-at ws (i + m) at ≡ operands-at ws i at ++ operands-at ws m (operands-end ws i at)
-  unfolding operands-end operands-at
-  split-at zero m at = let z : 0 + m ≡ m = omega arith in rw z refl
-  split-at (suc i) m at =
-      let z : suc i + m ≡ suc (i + m) = omega arith in
-      rw z (ap (λ (l : List Operand). operand-at ws at ∷ l) (split-at i m (operand-end ws at)))
 
 give-append : (k f : ℕ) (ps qs : List Operand) → operands-give k f (ps ++ qs) ≡ operands-give k f ps ++ operands-give k f qs
 unfolding operands-give
@@ -115,7 +102,7 @@ module _ (ws : List ℕ) (kind flag k at i : ℕ) (l : i < k) where
   module _ {out out₁ : List ℕ} {p q : Pen} (P : Puts out p out₁ q here (given-of i)) where
     -- the pen stands there
     pub pen-here : q .from ≡ here
-    pen-here = ap (λ (x : Pen). x .from) (P .pen)
+    pen-here = pen-from P
 
     pub operand-room : Room out p (length (given-of k)) → Room out₁ q (length (operand-gives kind flag (operand-at ws (q .from))))
     operand-room R =
@@ -169,7 +156,7 @@ module _ (ws : List ℕ) (p : Pen) {q : Pen} {kind flag k : ℕ} (t : kind ≡ w
 
   module _ {out out₁ : List ℕ} {r : Pen} {action : ℕ} (a : action ≡ cond (eqb kind 7) 7 5) (P : Puts out q out₁ r (operands-end ws k (q .from)) first-given) where
     at-dest : r .from ≡ operands-end ws k (q .from)
-    at-dest = ap (λ (x : Pen). x .from) (P .pen)
+    at-dest = pen-from P
 
     pub dest-inside : assign-end ws (p .from) ≤ length ws → operand-end ws (r .from) ≤ length ws
     dest-inside h =

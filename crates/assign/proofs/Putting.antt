@@ -33,8 +33,7 @@ module _ {out : List ℕ} {p : Pen} where
   puts-none from = let z : p .at + 0 ≡ p .at = omega arith in record { written = refl; pen = rw z refl }
 
   pub puts-begun : Puts out p out p (p .from) []
-  unfolding puttings
-  puts-begun = let z : p .at + 0 ≡ p .at = omega arith in record { written = refl; pen = rw z refl }
+  puts-begun = puts-none (p .from)
 
   -- one item, counted or written
   pub puts-counted : (e : Entry) {q : Pen} → q ≡ moved p (p .from) (p .at + 1) → p .writing ≡ false → Puts out p out q (p .from) (e ∷ [])

@@ -1,6 +1,6 @@
 -- What model reads of a list is what stands at its words; and where it is cut off.
 use mathlib.Core.Path.{_≡_, refl, ap, _∙_, subst}
-use mathlib.Core.List.{List, [], _∷_}
+use mathlib.Core.List.{List, [], _∷_, _++_}
 use Prim.Native.Nat.{ℕ, zero, suc, _+_, _*_, _≤_, _<_}
 use native.Mathlib.Omega.{arith}
 use native.Mathlib.Decide.{decLt}
@@ -77,6 +77,19 @@ module _ (ws : List ℕ) where
   unfolding operands-end
   operands-up zero at = omega arith
   operands-up (suc k) at = omega (arith, operands-up k (operand-end ws at))
+
+  -- i of them, then m
+  pub split-end : (i m at : ℕ) → operands-end ws (i + m) at ≡ operands-end ws m (operands-end ws i at)
+  unfolding operands-end
+  split-end zero m at = let z : 0 + m ≡ m = omega arith in rw z refl
+  split-end (suc i) m at = let z : suc i + m ≡ suc (i + m) = omega arith in rw z (split-end i m (operand-end ws at))
+
+  pub split-at : (i m at : ℕ) → operands-at ws (i + m) at ≡ operands-at ws i at ++ operands-at ws m (operands-end ws i at)
+  unfolding operands-end operands-at
+  split-at zero m at = let z : 0 + m ≡ m = omega arith in rw z refl
+  split-at (suc i) m at =
+      let z : suc i + m ≡ suc (i + m) = omega arith in
+      rw z (ap (λ (l : List Operand). operand-at ws at ∷ l) (split-at i m (operand-end ws at)))
 
   operands-read : (k at : ℕ) → operands-end ws k at ≤ length ws → read-operands k (drop at ws) ≡ done (operands-at ws k at, drop (operands-end ws k at) ws)
   unfolding read-operands operands-at operands-end

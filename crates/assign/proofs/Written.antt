@@ -11,7 +11,9 @@ use lib.Dec.{eqb}
 use Rattle.model.specs.Record.{Entry, lent}
 use Rattle.model.specs.Assign.{Operand, Assign, places, items-in, acted, dereffed, operand-gives, operands-give, gives, given, item-record}
 use Rattle.base.specs.Tests.{split}
+use Rattle.base.specs.Equal.{drop-replicate}
 use Rattle.assign.specs.Puts.{putting, puttings}
+use Rattle.assign.proofs.Elements.{items-append}
 
 -- COUNTED
 
@@ -42,11 +44,6 @@ operands-few : (k f : ℕ) (ps : List Operand) → length (operands-give k f ps)
 unfolding operands-give items-in
 operands-few k f [] = omega arith
 operands-few k f (p ∷ ps) = omega (arith, operand-few k f p, operands-few k f ps, length-append (operand-gives k f p) (operands-give k f ps))
-
-items-append : (ps qs : List Operand) → items-in (ps ++ qs) ≡ items-in ps + items-in qs
-unfolding items-in
-items-append [] qs = omega arith
-items-append (p ∷ ps) qs = omega (arith, items-append ps qs)
 
 gives-few : (a : Assign) → length (gives a) ≤ 3 * items-in (a .operands ++ (a .destination ∷ []))
 unfolding gives items-in
@@ -93,17 +90,11 @@ puttings-rows total at (e ∷ es) out h =
     puttings-rows total (at + 1) es (set (set out (1 + at) (e .0)) (1 + total + at) (e .1)) (omega arith)
     ∙ rw (i, j) (ap (λ (x : List ℕ). sets x (suc (1 + total + at)) args) (sets-set ops (set out (1 + at) (e .0)) (suc (1 + at)) (1 + total + at) (e .1) (omega arith)))
 
--- zeros without the first k
-drop-zeros : (k m : ℕ) → drop {A = ℕ} k (replicate m 0) ≡ replicate (m - k) 0
-drop-zeros zero m = let z : m - 0 ≡ m = omega arith in rw z refl
-drop-zeros (suc k) zero = let z : 0 - suc k ≡ 0 = omega arith in rw z refl
-drop-zeros (suc k) (suc m) = let z : suc m - suc k ≡ m - k = omega arith in rw z (drop-zeros k m)
-
 -- a row put into zeros behind others
 row : (front vs : List ℕ) (m i : ℕ) → length front ≡ i → length vs ≤ m → sets (front ++ replicate m 0) i vs ≡ (front ++ vs) ++ replicate (m - length vs) 0
 row front vs m i e h =
     let l : length (front ++ replicate m 0) ≡ i + m = length-append front (replicate m 0) ∙ rw (e, length-replicate {A = ℕ} m 0) refl in
-    let d : drop (i + length vs) (front ++ replicate m 0) ≡ replicate (m - length vs) 0 = rw (← e) (drop-append-add front (replicate m 0) (length vs) ∙ drop-zeros (length vs) m) in
+    let d : drop (i + length vs) (front ++ replicate m 0) ≡ replicate (m - length vs) 0 = rw (← e) (drop-append-add front (replicate m 0) (length vs) ∙ drop-replicate (length vs) m 0) in
     sets-eq vs (front ++ replicate m 0) i (omega arith) ∙ rw (take-at front (replicate m 0) i e, d) refl
 
 -- all of them, in zeros

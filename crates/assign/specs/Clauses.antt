@@ -1,13 +1,13 @@
 -- The order in which a statement's places are used: the source's `statement` and `operand`, clause by clause, with their lines in
 -- fold_unfold.rs; and that all of them are the one rule of `gives`.
 use mathlib.Core.Path.{_≡_, refl, sym, ap}
-use mathlib.Core.Bool.{true, cond, not, _&&_, _||_}
+use mathlib.Core.Bool.{true, false, cond, not, _&&_, _||_}
 use mathlib.Core.List.{List, [], _∷_, _++_, append-nil}
 use Prim.Native.Nat.{ℕ, zero, suc, _≤_}
 use native.Mathlib.Omega.{arith}
 use lib.ListN.{length}
 use lib.Dec.{eqb, leb}
-use borrow.Author.Tests.{eqb-true, leb-true}
+use borrow.Author.Tests.{eqb-true, leb-true, not-true}
 use Rattle.model.specs.Record.{Entry}
 use Rattle.model.specs.Assign.{Operand, Assign, is-constant, flag-ok, count-ok, constants-ok, known, acted, dereffed, operand-gives, operands-give, gives}
 use Rattle.base.specs.Tests.{split, clash, and-left, and-right}
@@ -104,15 +104,33 @@ ruled = kind-cases Ruled
     (λ f ps c. let (p, z) = one-only ps c in rw z (sym (append-nil (acted 6 p))))
     (λ f ps c. each-ruled f ps)
 
--- so is every statement of the source: its operands as they stand, then the destination
-pub clauses-one : (a : Assign) → known a ≡ true → statement a ≡ gives a
-unfolding statement gives known
-clauses-one a h =
+-- what is known of a statement
+pub record Knows (a : Assign) : Type 0 where
+  pub nine : leb (a .kind) 8 ≡ true
+  pub counted : count-ok (a .kind) (length (a .operands)) ≡ true
+  pub constants : constants-ok (a .kind) (a .operands) ≡ true
+  pub destined : is-constant (a .destination) ≡ false
+
+pub knows : (a : Assign) → known a ≡ true → Knows a
+unfolding known
+knows a h =
     let k = leb (a .kind) 8 in
     let f = flag-ok (a .kind) (a .flag) in
     let c = count-ok (a .kind) (length (a .operands)) in
     let p = constants-ok (a .kind) (a .operands) in
-    let three = and-left (k && f && c) p (and-left (k && f && c && p) (not (is-constant (a .destination))) h) in
-    let two = and-left (k && f) c three in
-    let z = ruled (a .kind) (and-left k f two) (a .flag) (a .operands) (and-right (k && f) c three) in
-    ap (λ (x : List Entry). x ++ acted (cond (eqb (a .kind) 7) 7 5) (a .destination)) z
+    let d = is-constant (a .destination) in
+    let four = and-left (k && f && c && p) (not d) h in
+    let three = and-left (k && f && c) p four in
+    record {
+      nine = and-left k f (and-left (k && f) c three);
+      counted = and-right (k && f) c three;
+      constants = and-right (k && f && c) p four;
+      destined = not-true d (and-right (k && f && c && p) (not d) h);
+    }
+
+-- so is every statement of the source: its operands as they stand, then the destination
+pub clauses-one : (a : Assign) → known a ≡ true → statement a ≡ gives a
+unfolding statement gives
+clauses-one a h =
+    let K = knows a h in
+    ap (λ (x : List Entry). x ++ acted (cond (eqb (a .kind) 7) 7 5) (a .destination)) (ruled (a .kind) (K .nine) (a .flag) (a .operands) (K .counted))

@@ -1,23 +1,23 @@
 -- What a list of statements gives can stand in a block: its items lead, by the order of items, from where a [place use] may begin back to
 -- where one may begin.
 use mathlib.Core.Path.{_≡_, refl, sym, _∙_, subst}
-use mathlib.Core.Bool.{true, false, not, _&&_, _||_}
+use mathlib.Core.Bool.{true, false, _&&_, _||_}
 use mathlib.Core.List.{List, [], _∷_, _++_}
 use Prim.Native.Nat.{ℕ, zero, suc, _+_, _*_, _≤_, _<_}
 use native.Mathlib.Omega.{arith}
 use lib.ListN.{length}
 use lib.Dec.{eqb, leb}
-use borrow.Author.Tests.{eqb-true, leb-true, not-true, lt-ltb}
+use borrow.Author.Tests.{eqb-true, leb-true, lt-ltb}
 use Rattle.model.specs.Answer.{done, require}
 use Rattle.model.specs.Record.{Entry}
 use Rattle.model.specs.Function.{follow-table, may-follow, after, arg-named}
-use Rattle.model.specs.Assign.{Operand, Assign, read-list, places, items-in, operand-ok, operands-ok, is-constant, flag-ok, count-ok, wants-place, constants-ok, known, all-known, acted, dereffed, operand-gives, operands-give, gives, given, statements-of, statement-items}
+use Rattle.model.specs.Assign.{Operand, Assign, read-list, places, items-in, operand-ok, operands-ok, is-constant, count-ok, wants-place, constants-ok, known, all-known, acted, dereffed, operand-gives, operands-give, gives, given, statements-of, statement-items}
 use Rattle.base.specs.Tests.{split, clash, and-left, and-right, and-both}
 use Rattle.base.specs.Answer.{then-done}
 use Rattle.base.specs.Each.{Each, each-none, each-more}
 use Rattle.records.specs.Spots.{item-ok}
-use Rattle.assign.specs.Operands.{elements-ok, operand-places}
-use Rattle.assign.specs.Clauses.{operand, each}
+use Rattle.assign.specs.Operands.{elements-ok, operand-places, operands-append}
+use Rattle.assign.specs.Clauses.{operand, each, knows}
 
 -- items in a row, each where the one before it lets it stand: from what stands before them to what stands before the item behind them,
 -- as `follow-table` numbers it. Targets lie below n
@@ -205,34 +205,6 @@ module _ (n : ℕ) where
       (λ d. clash (cc))
       (λ d. leads-append (read-leads p (and-left (operand-ok p) true h) d) leads-none)
   reads-lead f (p ∷ q ∷ ps) k c h = absurd (omega (arith, eqb-true (length (p ∷ q ∷ ps)) 1 k))
-
--- operands, then others
-operands-append : (ps qs : List Operand) → operands-ok (ps ++ qs) ≡ operands-ok ps && operands-ok qs
-unfolding operands-ok
-operands-append [] qs = refl
-operands-append (p ∷ ps) qs = split (operand-ok p) (λ d. rw d (operands-append ps qs)) (λ d. rw d refl)
-
--- what is known of a statement
-record Knows (a : Assign) : Type 0 where
-  counted : count-ok (a .kind) (length (a .operands)) ≡ true
-  constants : constants-ok (a .kind) (a .operands) ≡ true
-  destined : is-constant (a .destination) ≡ false
-
-knows : (a : Assign) → known a ≡ true → Knows a
-unfolding known
-knows a h =
-    let k = leb (a .kind) 8 in
-    let f = flag-ok (a .kind) (a .flag) in
-    let c = count-ok (a .kind) (length (a .operands)) in
-    let p = constants-ok (a .kind) (a .operands) in
-    let d = is-constant (a .destination) in
-    let four = and-left (k && f && c && p) (not d) h in
-    let three = and-left (k && f && c) p four in
-    record {
-      counted = and-right (k && f) c three;
-      constants = and-right (k && f && c) p four;
-      destined = not-true d (and-right (k && f && c && p) (not d) h);
-    }
 
 -- a statement's items lead back to where a use may begin
 pub gives-leads : (n : ℕ) (a : Assign) → known a ≡ true → operands-ok (a .operands ++ (a .destination ∷ [])) ≡ true → Leads n 2 (gives a) 2

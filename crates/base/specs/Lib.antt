@@ -10,6 +10,8 @@ pub mod Answer
 pub mod Only
 -- a fact of each element of a list: `Each`
 pub mod Each
+-- equal words in a row
+pub mod Equal
 -- tests, sums and counts over the numbers below n
 pub mod Below
 -- the numbers that are collected because they pass

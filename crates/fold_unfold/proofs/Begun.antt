@@ -14,9 +14,9 @@ use Rattle.model.specs.Function.{nlocals, nblocks, rank}
 use Rattle.model.specs.Block.{is-join-point, join-points}
 use Rattle.model.specs.Rounds.{elem}
 use Rattle.base.specs.Below.{count-room}
+use Rattle.base.specs.Equal.{drop-replicate, take-replicate}
 use Rattle.mir.specs.Sizes.{Laid}
 use Rattle.blocks.specs.Points.{share-number}
-use Rattle.state.proofs.Copies.{drop-replicate, take-replicate}
 use Rattle.arrival.specs.Memory.{Memory}
 use Rattle.arrival.specs.Shares.{kept-in, arrays, Remembers, share-of}
 use Rattle.fold_unfold.specs.Runs.{blank, again, fresh, Ranked}

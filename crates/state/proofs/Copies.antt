@@ -1,12 +1,12 @@
 -- Arrays that a loop fills, a word a turn, with the words of another list: from the front, or from a place on. Nothing of any record.
 use mathlib.Core.Path.{_≡_, refl, sym, _∙_, ap, ap₂}
-use mathlib.Core.List.{List, _∷_, _++_, append-nil}
-use Prim.Native.Nat.{ℕ, zero, suc, _+_, _-_, _<_, _≤_}
-use native.Mathlib.Nat.{sub-zero, zero-sub, suc-sub-suc}
+use mathlib.Core.List.{List, _++_, append-nil}
+use Prim.Native.Nat.{ℕ, suc, _+_, _-_, _<_, _≤_}
 use native.Mathlib.Numerals.{add-one}
 use native.Mathlib.Omega.{arith}
 use lib.ListN.{length, take, drop, getD, set, replicate, length-drop, length-replicate, drop-of-length-le}
 use lib.Seq.{paste, paste-suc, set-at, drop-cons, take-suc, append-snoc, length-take-le, take-all, getD-drop}
+use Rattle.base.specs.Equal.{drop-replicate}
 
 -- l with its first k words from s
 abbrev pub front : List ℕ → List ℕ → ℕ → List ℕ
@@ -33,18 +33,6 @@ paste-more l s at f k h hl hs =
     let up : suc (k - f) ≡ k + 1 - f = omega arith in
     let word : getD (drop f s) (k - f) 0 ≡ getD s k 0 = getD-drop f s (k - f) 0 ∙ ap (λ (j : ℕ). getD s j 0) there in
     rw (← word, ← up) (paste-suc l at (drop f s) (k - f) 0 hl inside)
-
--- what is left of m equal words
-pub drop-replicate : (n m a : ℕ) → drop n (replicate m a) ≡ replicate (m - n) a
-drop-replicate zero m a = ap (λ (k : ℕ). replicate k a) (sym (sub-zero m))
-drop-replicate (suc n) zero a = ap (λ (k : ℕ). replicate k a) (sym (zero-sub (suc n)))
-drop-replicate (suc n) (suc m) a = drop-replicate n m a ∙ ap (λ (k : ℕ). replicate k a) (sym (suc-sub-suc m n))
-
--- the first of m equal words
-pub take-replicate : (n m a : ℕ) → n ≤ m → take n (replicate m a) ≡ replicate n a
-take-replicate zero m a h = refl
-take-replicate (suc n) zero a h = absurd (omega arith)
-take-replicate (suc n) (suc m) a h = ap (λ (l : List ℕ). a ∷ l) (take-replicate n m a (omega arith))
 
 -- 512 zeros, as an array is made
 pub blank : List ℕ

@@ -6,8 +6,8 @@ use native.Mathlib.Numerals.{add-one}
 use native.Mathlib.Omega.{arith}
 use lib.ListN.{length, take, drop, getD, set, replicate, length-drop, length-replicate, replicate-append-replicate, List·getD-append}
 use lib.Seq.{paste, set-at, drop-cons, take-suc, take-take, drop-drop, append-snoc, length-take-le, take-all, take-append-le, take-paste, drop-paste, drop-at, drop-append-add, getD-take, getD-drop}
+use Rattle.base.specs.Equal.{drop-replicate}
 use Rattle.state.specs.Spliced.{fronted, cleared, moved, splice}
-use Rattle.state.proofs.Copies.{drop-replicate}
 
 -- a word before what is pasted is the old one
 pub getD-paste-before : (l s : List ℕ) (at n k : ℕ) → k < at → at ≤ length l → getD (paste l at s n) k 0 ≡ getD l k 0
