@@ -37,7 +37,7 @@ nothing : items [] ≡ done []
 unfolding computed
 nothing = refl
 
--- Use, Repeat, RawPtr, Cast, UnaryOp: the operand, then the destination
+-- Use, Repeat, Ref, RawPtr, Cast, UnaryOp: the operand, then the destination
 one-operand : map (λ k. items (statement k 0 1 (field-3 1 ∷ []) (whole 2))) (0 ∷ 1 ∷ 2 ∷ 3 ∷ 4 ∷ 6 ∷ [])
     ≡ replicate 6 (done ((0, 1) ∷ (2, 3) ∷ (5, 0) ∷ (0, 2) ∷ (5, 0) ∷ []))
 unfolding computed
@@ -165,6 +165,10 @@ no-word = refl
 
 abbrev long : ℕ → Answer (List Entry)
 long n = statement-items (statement 2 1 1 ((n ∷ 0 ∷ 1 ∷ joined (replicate (n - 1) (1 ∷ 0 ∷ []))) ∷ []) (whole 2)) 5
+
+items-16383 : long 16382 ≡ done ((0, 2) ∷ (5, 0) ∷ [])
+unfolding computed
+items-16383 = refl
 
 items-16384 : long 16383 ≡ done ((0, 2) ∷ (5, 0) ∷ [])
 unfolding computed
