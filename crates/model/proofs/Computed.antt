@@ -4,6 +4,7 @@ use Rattle.model.specs.Block
 use Rattle.model.specs.Body
 use Rattle.model.specs.Calls
 use Rattle.model.specs.Collect
+use Rattle.model.specs.Crate
 use Rattle.model.specs.Frame
 use Rattle.model.specs.Function
 use Rattle.model.specs.Ghosts
@@ -41,7 +42,7 @@ unfolding
     Collect.bare Collect.first-clash Collect.returned
     Function.local-types Function.start Function.rank Function.op Function.arg Function.stop Function.follow-table
     Function.may-follow Function.after Function.arg-ok Function.function-sizes Function.starts-ok Function.ranks-ok
-    Function.items-from Function.items-ok Function.function-ok
+    Function.items-from Function.items-ok Function.function-ok Function.function-length
     Block.root-before Block.elem-of Block.elems Block.spot-before Block.uses-place Block.place-ok Block.places-ok
     Block.is-station Block.station Block.stations Block.entry-uses Block.targets Block.incoming Block.is-join-point
     Block.join-points Block.returns Block.latest-note Block.place-read Block.match-at Block.matched Block.is-arm Block.arm-value
@@ -57,6 +58,7 @@ unfolding
     Record.writable Record.lent Record.gather-one Record.gather Record.recorded
     Whole.passes Whole.ghost-statements Whole.with-buffer Whole.share Whole.joined Whole.shares Whole.accepted Whole.denied
     Whole.result Whole.shorter Whole.found Whole.whole
+    Crate.records Crate.spare Crate.stopped-at Crate.calls Crate.from-first Crate.crate-statements
     Calls.typed Calls.taken Calls.elems-of Calls.spot-of Calls.placed Calls.recorded-verb Calls.recorded-as
     Calls.call-projection Calls.call-downcast Calls.statement-ok Calls.statement-at Calls.call-carry Calls.call-join
     Calls.written Calls.call-collect Calls.call-unfolds Calls.call-folds
@@ -66,7 +68,7 @@ unfolding
     Assign.statements-of Assign.statement-items Assign.item-record Assign.items-lent
     Replay.at-point Replay.find Replay.look Replay.stand Replay.through Replay.opens-at Replay.cast-maybe Replay.own Replay.script
     Replay.play Replay.replay
-    Ghosts.close Ghosts.digit Ghosts.scan-byte Ghosts.scan Ghosts.words-of Ghosts.types-length Ghosts.function-length
+    Ghosts.close Ghosts.digit Ghosts.scan-byte Ghosts.scan Ghosts.words-of Ghosts.types-length
     Ghosts.function-words Ghosts.analysed Ghosts.decimal Ghosts.elem-text Ghosts.place-text Ghosts.point-text Ghosts.verb-text
     Ghosts.line-text Ghosts.lines-text Ghosts.answer-text Ghosts.printed Ghosts.ghosts
     Build.state-of

@@ -17,5 +17,7 @@ mod Limits
 mod States
 -- lists of MIR statements
 mod Assigns
+-- crates in one call
+mod Crates
 -- the refusals of each call, one for each number
 mod Numbers

@@ -43,6 +43,10 @@ arg fn i = word fn (4 + nlocals fn + nblocks fn + nblocks fn + nitems fn + i)
 unfoldable pub stop : List ℕ → ℕ → ℕ
 stop fn b = cond (ltb (suc b) (nblocks fn)) (start fn (suc b)) (nitems fn)
 
+-- how long the record is by its sizes as written
+unfoldable pub function-length : List ℕ → ℕ
+function-length ws = 4 + word ws 0 + 2 * word ws 2 + 2 * word ws 3
+
 -- WHICH ITEM MAY FOLLOW WHICH
 
 -- What stands before an item: 0 the entry part, 1 a place in it, 2 a block's begin, or a use or note, 3 a place, 4 a read,

@@ -9,6 +9,7 @@ use Rattle.model.specs.Words.{word}
 use Rattle.model.specs.Answer.{Answer, refused, done, require}
 use Rattle.model.specs.Tree.{Forest}
 use Rattle.model.specs.Place.{Elem, deref, field, downcast, index, Place, Verb, Fold, Unfold, At}
+use Rattle.model.specs.Function.{function-length}
 use Rattle.model.specs.Block.{entry-point}
 use Rattle.model.specs.Frame.{Line}
 use Rattle.model.specs.Passes.{Found}
@@ -62,12 +63,9 @@ backwards (x ∷ l) r = backwards l (x ∷ r)
 unfoldable pub words-of : List ℕ → Answer (List ℕ)
 words-of bytes = let s = close (scan bytes fresh) in require (s .fine) 2 λ _. done (backwards (s .words) [])
 
--- how long the records are by their sizes as written
+-- how long the type record is by its sizes as written
 unfoldable pub types-length : List ℕ → ℕ
 types-length ws = 2 + 2 * word ws 0 + word ws 1
-
-unfoldable pub function-length : List ℕ → ℕ
-function-length ws = 4 + word ws 0 + 2 * word ws 2 + 2 * word ws 3
 
 -- "4,096 words, 16 join points, 1,024 entries"
 abbrev pub ghosts-store : ℕ

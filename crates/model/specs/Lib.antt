@@ -29,6 +29,8 @@ pub mod Body
 -- the statement record, and the whole-function call
 pub mod Record
 pub mod Whole
+-- a whole crate in one call
+pub mod Crate
 -- the calls on states for users
 pub mod Calls
 -- MIR statements as they are, and the items that they give

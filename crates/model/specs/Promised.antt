@@ -6,7 +6,7 @@ use mathlib.Core.Logic.{_↔_, _≢_}
 use mathlib.Core.Bool.{Bool, true, false}
 use mathlib.Core.List.{List, [], _∷_, map}
 use mathlib.Core.Option.{some}
-use Prim.Native.Nat.{ℕ, suc}
+use Prim.Native.Nat.{ℕ, zero, suc, _≤_}
 use lib.ListN.{take}
 use Rattle.model.specs.Answer.{done}
 use Rattle.model.specs.Types.{types-ok}
@@ -32,6 +32,10 @@ One-of ns n = elem n ns ≡ true
 abbrev pub whole-numbers : List ℕ
 whole-numbers = 1 ∷ 2 ∷ 4 ∷ 5 ∷ 6 ∷ 8 ∷ 9 ∷ 10 ∷ []
 
+-- of that call where the types pass
+abbrev pub function-numbers : List ℕ
+function-numbers = 2 ∷ 4 ∷ 5 ∷ 6 ∷ 8 ∷ 9 ∷ 10 ∷ []
+
 -- of a place used, of a downcast, of a fold carried out
 abbrev pub use-numbers : List ℕ
 use-numbers = 1 ∷ 3 ∷ 4 ∷ 5 ∷ 6 ∷ 9 ∷ []
@@ -56,6 +60,18 @@ folds-numbers = 1 ∷ 3 ∷ 10 ∷ []
 -- of a list of statements (document 02, F-2)
 abbrev pub statement-numbers : List ℕ
 statement-numbers = 2 ∷ 10 ∷ 11 ∷ []
+
+-- of a whole crate (document 02, F-3), by the function's position: 0, its count, its types, words after the last record; else the
+-- function's own
+abbrev pub crate-numbers : ℕ → List ℕ
+crate-numbers zero = 1 ∷ 2 ∷ []
+crate-numbers (suc p) = function-numbers
+
+-- a refusal's number n and position p, of a crate that counts so many functions
+pub record Refused-at (count n p : ℕ) : Type 0 where
+  pub one : One-of (crate-numbers p) n
+  pub counted : p ≤ count
+  pub few : p ≤ 64
 
 -- what `ghosts` prints: lines of statements, or `refused` and one of the numbers
 pub data Answered (text : List ℕ) : Type 0 where

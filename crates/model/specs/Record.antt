@@ -43,9 +43,13 @@ statement-record entry ls =
     let es = entries entry ls in
     length ls ∷ length es ∷ (map (λ e. e .0) es ++ map (λ e. e .1) es)
 
+-- how many words the record of so many entries takes
+abbrev pub record-length : ℕ → ℕ
+record-length n = 2 + 2 * n
+
 -- a record of these entries goes into a buffer of n words: there is room, and a word can hold their number (else 10)
 unfoldable pub writable : ℕ → List Entry → Bool
-writable n es = leb (2 + 2 * length es) n && ltb (length es) (2 ^ 32)
+writable n es = leb (record-length (length es)) n && ltb (length es) (2 ^ 32)
 
 -- a list in a lent array of n words: zeros behind it
 unfoldable pub lent : ℕ → List ℕ → List ℕ

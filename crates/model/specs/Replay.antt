@@ -9,7 +9,9 @@ use mathlib.Core.Bool.{true, false}
 use mathlib.Core.List.{List, [], _∷_}
 use mathlib.Core.Option.{Option, none, some}
 use Prim.Native.Nat.{ℕ}
+use lib.ListN.{drop}
 use lib.Dec.{eqb}
+use Rattle.model.specs.Words.{word}
 use Rattle.model.specs.Answer.{Answer, refused, done, _>>=_}
 use Rattle.model.specs.Tree.{Forest, leaves, unfolded}
 use Rattle.model.specs.Place.{Spot, At, no-index}
@@ -18,7 +20,7 @@ use Rattle.model.specs.Function.{local-types}
 use Rattle.model.specs.Block.{Station, stations, entry-point, targets, matched}
 use Rattle.model.specs.Frame.{Line}
 use Rattle.model.specs.Body.{Left, variants, choice}
-use Rattle.model.specs.Record.{recorded}
+use Rattle.model.specs.Record.{record-length, recorded}
 use Rattle.model.specs.Whole.{whole}
 
 -- what is recorded at a point, in order
@@ -111,3 +113,10 @@ pub record Replayed (Γ fn words : List ℕ) : Type 0 where
 abbrev pub Demand-3 : Type 0
 Demand-3 = (Γ fn : List ℕ) (nforms nwhats nout : ℕ) (c : ℕ × ℕ) → (whole Γ fn nforms nwhats nout) .answer ≡ done c
     → Replayed Γ fn ((whole Γ fn nforms nwhats nout) .out)
+
+-- of a whole crate (document 02, F-3): of each function record, and the output from its statement record on, which ends where its own
+-- counts say
+pub data Replayed-each (Γ : List ℕ) : List (List ℕ) → List ℕ → Type 0 where
+  replayed-none : {out : List ℕ} → Replayed-each Γ [] out
+  replayed-more : {fn : List ℕ} {fns : List (List ℕ)} {out : List ℕ} → Replayed Γ fn out → Replayed-each Γ fns (drop (record-length (word out 1)) out)
+      → Replayed-each Γ (fn ∷ fns) out
