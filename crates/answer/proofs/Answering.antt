@@ -11,7 +11,8 @@ use Rattle.model.specs.Block.{entry-point}
 use Rattle.model.specs.Frame.{Line}
 use Rattle.model.specs.Record.{statement-record, lent}
 use Rattle.model.specs.Whole.{accepted, denied, result, found, whole}
-use Rattle.model.specs.Ghosts.{types-length, function-length, function-words, analysed, answer-text, lines-text, fresh, close, printed, ghosts, ghosts-store, ghosts-buffer}
+use Rattle.model.specs.Function.{function-length}
+use Rattle.model.specs.Ghosts.{types-length, function-words, analysed, answer-text, lines-text, fresh, close, printed, ghosts, ghosts-store, ghosts-buffer}
 use Rattle.base.specs.Answer.{split-answer}
 use Rattle.model.specs.Promised.{Answered}
 use Rattle.records.specs.Scanned.{scan-pieces, joined}

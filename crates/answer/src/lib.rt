@@ -9,13 +9,13 @@ ghost use Rattle.statements.specs.Moved.{cleared};
 ghost use Rattle.answer.specs.Said.{Ended, Says, Printed, Responds, answer-of};
 use fold_unfold::Ghosts;
 use fold_unfold::ghost_statements;
+use mir::split::function_length;
 use text::print::print_record;
 use text::print::print_refusal;
 use text::scan::Scan;
 use text::scan::close;
 use text::scan::fresh;
 use text::scan::scan_piece;
-use text::split::function_length;
 use text::split::function_start;
 
 // Room for the words of a text.

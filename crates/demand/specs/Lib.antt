@@ -9,5 +9,7 @@ pub mod Whole
 -- demand 1: the numbers with which the passes refuse, 5, 6, 8 and 9 (passes-refuse), and the whole-function call (whole-refuses); what `ghosts`
 -- prints (ghosts-answered)
 pub mod Refused
+-- of a whole crate in one call
+pub mod Crates
 -- 5. DEMAND 3: demand-3, of model's statement
 pub mod Demand

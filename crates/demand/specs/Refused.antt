@@ -14,15 +14,15 @@ use Rattle.model.specs.Tree.{Forest, leaves}
 use Rattle.model.specs.State.{most}
 use Rattle.model.specs.Place.{Spot, At, used-ok}
 use Rattle.model.specs.Walk.{projection}
-use Rattle.model.specs.Function.{nlocals, nblocks, local-types, function-ok}
+use Rattle.model.specs.Function.{nlocals, nblocks, local-types, function-ok, function-length}
 use Rattle.model.specs.Block.{Station, targets, matched, is-arm, arm-value, places-ok, entry-point, join-points}
 use Rattle.model.specs.Rounds.{elem}
 use Rattle.model.specs.Passes.{Found}
 use Rattle.model.specs.Body.{enter-uses, use-at, pass-stations, Left, variants, variant-of, choice, open-variant, match-targets, match-exits, exits-of, body, frame}
 use Rattle.model.specs.Record.{entries, writable}
 use Rattle.model.specs.Whole.{passes, ghost-statements, with-buffer, accepted, denied, result, shorter, found, whole}
-use Rattle.model.specs.Ghosts.{fresh, close, scan, backwards, words-of, types-length, function-length, function-words, ghosts-store, ghosts-buffer, analysed, answer-text, printed, ghosts}
-use Rattle.model.specs.Promised.{One-of, whole-numbers, Answered, in-lines, in-a-refusal}
+use Rattle.model.specs.Ghosts.{fresh, close, scan, backwards, words-of, types-length, function-words, ghosts-store, ghosts-buffer, analysed, answer-text, printed, ghosts}
+use Rattle.model.specs.Promised.{One-of, whole-numbers, function-numbers, Answered, in-lines, in-a-refusal}
 use Rattle.base.specs.Tests.{split, split-option, clash}
 use Rattle.base.specs.Each.{Each, each-none, each-more}
 use Rattle.base.specs.Function.{length-local-types}
@@ -131,34 +131,46 @@ module _ {Γ fn : List ℕ} (H : Passed Γ fn) where
 
 module _ (Γ fn : List ℕ) where
   -- the passes, of records that pass
-  passes-numbers : types-ok Γ ≡ true → function-ok Γ fn ≡ true → places-ok fn ≡ true → Only whole-numbers (passes Γ fn)
+  passes-numbers : types-ok Γ ≡ true → function-ok Γ fn ≡ true → places-ok fn ≡ true → Only function-numbers (passes Γ fn)
   unfolding elem
   passes-numbers t f p = only-more {ms = run-numbers} refl (only-of (passes Γ fn) (passes-refuse (record { types = t; function = f; places = p })))
 
-  -- the tests, then the passes
+  -- the tests of types that pass, then the passes
+  typed-refuse : types-ok Γ ≡ true → (store : ℕ) → Only function-numbers (ghost-statements Γ fn store)
+  unfolding ghost-statements elem
+  typed-refuse t store =
+      rw t (only-require function-numbers (function-ok Γ fn) 2 _ refl (λ f. only-require function-numbers (places-ok fn) 4 _ refl (λ p.
+      only-require function-numbers (leb (most * join-points fn) store) 10 _ refl (λ r. passes-numbers t f p))))
+
+  -- of any types
   tests-refuse : (store : ℕ) → Only whole-numbers (ghost-statements Γ fn store)
   unfolding ghost-statements elem
-  tests-refuse store =
-      only-require whole-numbers (types-ok Γ) 1 _ refl (λ t. only-require whole-numbers (function-ok Γ fn) 2 _ refl (λ f. only-require whole-numbers (places-ok fn) 4 _ refl (λ p.
-      only-require whole-numbers (leb (most * join-points fn) store) 10 _ refl (λ r. passes-numbers t f p))))
+  tests-refuse store = split (types-ok Γ) (λ t. only-more {ms = function-numbers} refl (typed-refuse t store)) (λ t. rw t (only-refused refl))
 
   module _ (nforms nwhats nout : ℕ) where
     -- with the statement buffer
+    buffered : {ns : List ℕ} → One-of ns 10 → Only ns (ghost-statements Γ fn (shorter Γ fn nforms nwhats nout)) → Only ns (found Γ fn nforms nwhats nout)
+    unfolding found with-buffer
+    buffered {ns} h o = only-bind o (λ f. only-require ns (writable nout (entries (entry-point fn) (f .lines))) 10 _ h (λ w. only-done))
+
     pub found-refuses : Only whole-numbers (found Γ fn nforms nwhats nout)
-    unfolding found with-buffer elem
-    found-refuses = only-bind (tests-refuse (shorter Γ fn nforms nwhats nout))
-        (λ f. only-require whole-numbers (writable nout (entries (entry-point fn) (f .lines))) 10 _ refl (λ w. only-done))
+    unfolding elem
+    found-refuses = buffered refl (tests-refuse (shorter Γ fn nforms nwhats nout))
 
     -- what is given of it
-    result-refuses : {a : Answer (Found Forest At)} → Only whole-numbers a → Only whole-numbers ((result Γ fn nforms nwhats nout a) .answer)
+    result-refuses : {ns : List ℕ} {a : Answer (Found Forest At)} → Only ns a → Only ns ((result Γ fn nforms nwhats nout a) .answer)
     unfolding result denied accepted
     result-refuses (only-refused e) = only-refused e
     result-refuses only-done = only-done
 
-    -- the whole-function call refuses with 1, 2, 4, 5, 6, 8, 9 or 10
+    -- the whole-function call refuses with 1, 2, 4, 5, 6, 8, 9 or 10; and not with 1 where the types pass
     pub whole-refuses : (n : ℕ) → (whole Γ fn nforms nwhats nout) .answer ≡ refused n → One-of whole-numbers n
     unfolding whole
     whole-refuses n e = only-at (result-refuses found-refuses) e
+
+    pub function-refuses : types-ok Γ ≡ true → (n : ℕ) → (whole Γ fn nforms nwhats nout) .answer ≡ refused n → One-of function-numbers n
+    unfolding whole elem
+    function-refuses t n e = only-at (result-refuses (buffered refl (typed-refuse t (shorter Γ fn nforms nwhats nout)))) e
 
 -- THE PROGRAM
 

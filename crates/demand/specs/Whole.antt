@@ -1,11 +1,14 @@
 -- The theorems on a function that passes refusals 1, 2 and 4: after an accepted first pass the second is accepted; what is stored is
 -- a state record's; a stored state changes at most 262,656 times; and demand 3.
-use mathlib.Core.Path.{_≡_, refl, _∙_, ap}
+use mathlib.Core.Path.{_≡_, refl, sym, _∙_, ap, subst}
 use mathlib.Core.Bool.{true}
-use mathlib.Core.List.{List}
+use mathlib.Core.List.{List, _++_}
 use mathlib.Core.Option.{some}
-use Prim.Native.Nat.{ℕ, _*_, _≤_, _<_}
-use lib.Dec.{leb}
+use Prim.Native.Nat.{ℕ, _+_, _*_, _^_, _≤_, _<_}
+use native.Mathlib.Omega.{arith}
+use lib.ListN.{length}
+use lib.Dec.{ltb, leb}
+use borrow.Author.Tests.{leb-true}
 use Rattle.model.specs.Answer.{Answer, refused, done}
 use Rattle.model.specs.Types.{types-ok}
 use Rattle.model.specs.Tree.{Forest, leaves}
@@ -13,18 +16,18 @@ use Rattle.model.specs.Place.{At}
 use Rattle.model.specs.Function.{nblocks, local-types, function-ok}
 use Rattle.model.specs.Block.{places-ok, entry-uses, entry-point, is-join-point, join-points}
 use Rattle.model.specs.State.{most}
-use Rattle.model.specs.Frame.{carries}
+use Rattle.model.specs.Frame.{Line, carries}
 use Rattle.model.specs.Passes.{Store, infer, Found}
 use Rattle.model.specs.Measure.{ceiling}
 use Rattle.model.specs.Body.{enter-uses, frame}
 use Rattle.model.specs.Record.{entries, statement-record, lent, writable}
 use Rattle.model.specs.Whole.{passes, ghost-statements, with-buffer, accepted, denied, result, shorter, found, whole}
 use Rattle.model.specs.Replay.{Replayed}
-use Rattle.base.specs.Tests.{split, clash}
+use Rattle.base.specs.Tests.{split, clash, and-left}
 use Rattle.base.specs.Answer.{then-done}
 use Rattle.base.specs.Function.{FunctionFacts, function-facts}
 use Rattle.laws.specs.Valid.{Valid}
-use Rattle.records.specs.Recorded.{recorded-written, recorded-lent}
+use Rattle.records.specs.Recorded.{recorded-front, length-record}
 use Rattle.solver.specs.Laws.{Good, Lawful}
 use Rattle.solver.specs.Changes.{changes, changes-ceiling}
 use Rattle.solver.specs.Whole as W
@@ -91,15 +94,10 @@ module _ {Γ fn : List ℕ} (H : Passed Γ fn) where
   unfolding frame
   changes-most b u = changes-ceiling (frame Γ fn) (Ok Γ fn) (frame-lattice Γ fn) b (frame-bodies facts (H .places) trees) (frame-edges facts Γ) ((entered u) .1)
 
-  -- DEMAND 3, of the statement record
-  pub passes-demand : {r : Found Forest At} → passes Γ fn ≡ done r → Replayed Γ fn (statement-record (entry-point fn) (r .lines))
-  passes-demand {r} e = passes-replayed facts (H .places) trees (frame-lattice Γ fn) (frame-collects Γ fn (H .types)) (folded-good Γ fn facts)
-      (statement-record (entry-point fn) (r .lines)) (recorded-written (entry-point fn) (r .lines)) e
-
-  -- of the record in a lent buffer, zeros behind it
-  pub lent-demand : {r : Found Forest At} (n : ℕ) → passes Γ fn ≡ done r → Replayed Γ fn (lent n (statement-record (entry-point fn) (r .lines)))
-  lent-demand {r} n e = passes-replayed facts (H .places) trees (frame-lattice Γ fn) (frame-collects Γ fn (H .types)) (folded-good Γ fn facts)
-      (lent n (statement-record (entry-point fn) (r .lines))) (recorded-lent (entry-point fn) n (r .lines)) e
+  -- DEMAND 3, of the statement record, whatever words stand behind it
+  pub front-demand : {r : Found Forest At} (rest : List ℕ) → passes Γ fn ≡ done r → Replayed Γ fn (statement-record (entry-point fn) (r .lines) ++ rest)
+  front-demand {r} rest e = passes-replayed facts (H .places) trees (frame-lattice Γ fn) (frame-collects Γ fn (H .types)) (folded-good Γ fn facts)
+      (statement-record (entry-point fn) (r .lines) ++ rest) (recorded-front (entry-point fn) (r .lines) rest) e
 
 -- AN ACCEPTED CALL
 
@@ -117,27 +115,51 @@ ghost-passed Γ fn store {r} e = split (types-ok Γ)
     (λ a. clash (cc))
 
 -- the statement buffer is large enough, or the call is refused
-buffer-same : (fn : List ℕ) (n : ℕ) (s : Found Forest At) {r : Found Forest At} → with-buffer fn n s ≡ done r → s ≡ r
+buffer-same : (fn : List ℕ) (n : ℕ) (s : Found Forest At) {r : Found Forest At} → with-buffer fn n s ≡ done r
+    → (s ≡ r) × (writable n (entries (entry-point fn) (r .lines)) ≡ true)
 unfolding with-buffer
-buffer-same fn n s e = split (writable n (entries (entry-point fn) (s .lines))) (λ d. cc) (λ d. clash (cc))
+buffer-same fn n s e = split (writable n (entries (entry-point fn) (s .lines))) (λ d. (cc, cc)) (λ d. clash (cc))
 
 module _ (Γ fn : List ℕ) (nforms nwhats nout : ℕ) where
   -- the same with the statement buffer
-  pub found-passed : {r : Found Forest At} → found Γ fn nforms nwhats nout ≡ done r → Passed Γ fn × (passes Γ fn ≡ done r)
+  pub found-passed : {r : Found Forest At} → found Γ fn nforms nwhats nout ≡ done r
+      → Passed Γ fn × (passes Γ fn ≡ done r) × (writable nout (entries (entry-point fn) (r .lines)) ≡ true)
   unfolding found
   found-passed {r} e =
       let (s, u, d) = then-done (ghost-statements Γ fn (shorter Γ fn nforms nwhats nout)) e in
       let (H, p) = ghost-passed Γ fn (shorter Γ fn nforms nwhats nout) u in
-      (H, p ∙ ap done (buffer-same fn nout s d))
+      let (q, w) = buffer-same fn nout s d in
+      (H, p ∙ ap done q, w)
 
-  -- of an accepted call's result
-  result-demand : (a : Answer (Found Forest At)) → found Γ fn nforms nwhats nout ≡ a → {c : ℕ × ℕ} → (result Γ fn nforms nwhats nout a) .answer ≡ done c
-      → Replayed Γ fn ((result Γ fn nforms nwhats nout a) .out)
-  unfolding result accepted denied
-  result-demand (refused k) p e = clash (cc)
-  result-demand (done r) p e = let (H, q) = found-passed p in lent-demand H nout q
+  -- what an accepted call leaves in the buffer: its record, which is replayed whatever words stand behind it
+  pub record Leaves (out : List ℕ) (c : ℕ × ℕ) : Type 0 where
+    pub lines : List (Line At)
+    pub counted : c .1 ≡ length (entries (entry-point fn) lines)
+    pub room : length (statement-record (entry-point fn) lines) ≤ nout
+    pub written : out ≡ lent nout (statement-record (entry-point fn) lines)
+    pub replayed : (rest : List ℕ) → Replayed Γ fn (statement-record (entry-point fn) lines ++ rest)
+
+  result-leaves : (a : Answer (Found Forest At)) → found Γ fn nforms nwhats nout ≡ a → {c : ℕ × ℕ} → (result Γ fn nforms nwhats nout a) .answer ≡ done c
+      → Leaves ((result Γ fn nforms nwhats nout a) .out) c
+  unfolding result accepted denied writable
+  result-leaves (refused k) p e = clash (cc)
+  result-leaves (done r) p e =
+      let (H, q, w) = found-passed p in
+      let es = entries (entry-point fn) (r .lines) in
+      let few : 2 + 2 * length es ≤ nout = leb-true (2 + 2 * length es) nout (and-left (leb (2 + 2 * length es) nout) (ltb (length es) (2 ^ 32)) w) in
+      record {
+        lines = r .lines;
+        counted = cc;
+        room = omega (arith, length-record (entry-point fn) (r .lines));
+        written = refl;
+        replayed = λ rest. front-demand H rest q;
+      }
+
+  pub whole-leaves : {c : ℕ × ℕ} → (whole Γ fn nforms nwhats nout) .answer ≡ done c → Leaves ((whole Γ fn nforms nwhats nout) .out) c
+  unfolding whole
+  whole-leaves e = result-leaves (found Γ fn nforms nwhats nout) refl e
 
   -- DEMAND 3, of the whole-function call: a function is accepted when its call gives a statement record; the replay is fed that record
   pub whole-demand : {c : ℕ × ℕ} → (whole Γ fn nforms nwhats nout) .answer ≡ done c → Replayed Γ fn ((whole Γ fn nforms nwhats nout) .out)
-  unfolding whole
-  whole-demand e = result-demand (found Γ fn nforms nwhats nout) refl e
+  unfolding lent
+  whole-demand e = let L = whole-leaves e in subst (Replayed Γ fn) (sym (L .written)) (L .replayed _)

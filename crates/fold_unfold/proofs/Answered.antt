@@ -10,13 +10,14 @@ use lib.ListN.{length, replicate, length-append, length-replicate}
 use lib.Dec.{ltb}
 use borrow.Author.Tests.{leb-true}
 use Rattle.model.specs.Answer.{Answer, refused, done, _>>=_}
+use Rattle.model.specs.Types.{types-ok}
 use Rattle.model.specs.Tree.{Forest}
 use Rattle.model.specs.Place.{At}
 use Rattle.model.specs.Block.{entry-point}
 use Rattle.model.specs.Frame.{Line}
 use Rattle.model.specs.Passes.{Found}
 use Rattle.model.specs.Record.{line-entries, entries, statement-record, writable, lent}
-use Rattle.model.specs.Whole.{Result, passes, with-buffer, shares, accepted, denied, result, shorter, found, whole}
+use Rattle.model.specs.Whole.{Result, passes, ghost-statements, with-buffer, shares, accepted, denied, result, shorter, found, whole}
 use Rattle.model.specs.Replay.{Replayed}
 use Rattle.model.specs.Promised.{One-of, whole-numbers}
 use Rattle.base.specs.Tests.{clash, and-left}
@@ -43,12 +44,12 @@ own-zeros m e = e ∙ ap (λ (k : ℕ). replicate k 0) (sym (ap length e ∙ len
 
 module _ (Γ fn : List ℕ) (nforms nwhats nout : ℕ) where
   -- the tests refuse
-  found-denied : {offs points : List ℕ} {r : ℕ} → Checked Γ fn nforms nwhats offs points r → r ≢ 0 → found Γ fn nforms nwhats nout ≡ refused r
+  found-denied : {points : List ℕ} {r : ℕ} → Checked Γ fn nforms nwhats points r → r ≢ 0 → found Γ fn nforms nwhats nout ≡ refused r
   unfolding found shorter
   found-denied C n = ap (λ (a : Answer (Found Forest At)). a >>= with-buffer fn nout) (C .denied n)
 
   -- they pass
-  found-passed : {offs points : List ℕ} {r : ℕ} → Checked Γ fn nforms nwhats offs points r → r ≡ 0 → found Γ fn nforms nwhats nout ≡ (passes Γ fn >>= with-buffer fn nout)
+  found-passed : {points : List ℕ} {r : ℕ} → Checked Γ fn nforms nwhats points r → r ≡ 0 → found Γ fn nforms nwhats nout ≡ (passes Γ fn >>= with-buffer fn nout)
   unfolding found shorter
   found-passed C z = ap (λ (a : Answer (Found Forest At)). a >>= with-buffer fn nout) (C .passed z)
 
@@ -74,6 +75,12 @@ module _ {Γ fn fs ws out fs′ ws′ out′ : List ℕ} where
   whole-accepted f e zf zw zo =
       whole-found (accepted Γ fn (length fs) (length ws) (length out) f) (ap (result Γ fn (length fs) (length ws) (length out)) e) zf zw zo
 
+-- the types are refused
+pub types-refuse : {Γ fn fs ws out fs′ ws′ out′ : List ℕ} → types-ok Γ ≡ false → fs′ ≡ replicate (length fs) 0 → ws′ ≡ replicate (length ws) 0 → out′ ≡ replicate (length out) 0
+    → Whole Γ fn fs ws out fs′ ws′ out′ (Refused 1)
+unfolding found ghost-statements
+types-refuse t zf zw zo = whole-refused (cc) zf zw zo
+
 -- only the lengths of what was lent count
 pub whole-same : {Γ fn fs ws out fs₀ ws₀ out₀ fs′ ws′ out′ : List ℕ} {r : Ghosts} → length fs ≡ length fs₀ → length ws ≡ length ws₀ → length out ≡ length out₀
     → Whole Γ fn fs ws out fs′ ws′ out′ r → Whole Γ fn fs₀ ws₀ out₀ fs′ ws′ out′ r
@@ -84,7 +91,7 @@ whole-same lf lw lo W = record {
   record-is = rw (lf, lw, lo) at (W .record-is);
 }
 
-module _ {Γ fn fs ws out offs points : List ℕ} {r : ℕ} (C : Checked Γ fn (length fs) (length ws) offs points r) where
+module _ {Γ fn fs ws out points : List ℕ} {r : ℕ} (C : Checked Γ fn (length fs) (length ws) points r) where
   -- the tests refuse
   pub tests-refuse : {fs′ ws′ out′ : List ℕ} → r ≢ 0 → fs′ ≡ replicate (length fs) 0 → ws′ ≡ replicate (length ws) 0 → out′ ≡ replicate (length out) 0
       → Whole Γ fn fs ws out fs′ ws′ out′ (Refused r)

@@ -15,7 +15,8 @@ use Rattle.base.specs.Tests.{cond-split, and-left, and-right}
 use Rattle.base.specs.Below.{count-most}
 use Rattle.mir.specs.Sizes.{Laid, Formed}
 use Rattle.mir.proofs.Sizes.{sizes-laid}
-use Rattle.fold_unfold.specs.Answers.{Clear, Checked}
+use Rattle.arrival.specs.Shares.{Shared}
+use Rattle.fold_unfold.specs.Answers.{Checked}
 
 -- a function record that passes refusal 2 is formed
 pub function-formed : (Γ fn : List ℕ) → function-ok Γ fn ≡ true → Formed fn
@@ -50,40 +51,39 @@ second-shorter k m n h =
 
 -- THE TESTS IN ORDER
 
-module _ {Γ fn : List ℕ} {nforms nwhats : ℕ} {offs points : List ℕ} where
-  -- the type record does not pass
-  pub denied-types : types-ok Γ ≡ false → Checked Γ fn nforms nwhats offs points 1
-  unfolding ghost-statements
-  denied-types e = record { denied = λ n. cc; passed = λ z. absurd (omega arith); clear = λ z. absurd (omega arith) }
-
+module _ {Γ fn : List ℕ} {nforms nwhats : ℕ} {points : List ℕ} where
   -- the function record does not
-  pub denied-function : types-ok Γ ≡ true → function-ok Γ fn ≡ false → Checked Γ fn nforms nwhats offs points 2
+  pub denied-function : types-ok Γ ≡ true → function-ok Γ fn ≡ false → Checked Γ fn nforms nwhats points 2
   unfolding ghost-statements
-  denied-function t e = record { denied = λ n. cc; passed = λ z. absurd (omega arith); clear = λ z. absurd (omega arith) }
+  denied-function t e = record { denied = λ n. cc; passed = λ z. absurd (omega arith); clear = λ z o R. absurd (omega arith) }
 
   -- a place does not
-  pub denied-places : types-ok Γ ≡ true → function-ok Γ fn ≡ true → places-ok fn ≡ false → Checked Γ fn nforms nwhats offs points 4
+  pub denied-places : types-ok Γ ≡ true → function-ok Γ fn ≡ true → places-ok fn ≡ false → Checked Γ fn nforms nwhats points 4
   unfolding ghost-statements
-  denied-places t f e = record { denied = λ n. cc; passed = λ z. absurd (omega arith); clear = λ z. absurd (omega arith) }
+  denied-places t f e = record { denied = λ n. cc; passed = λ z. absurd (omega arith); clear = λ z o R. absurd (omega arith) }
 
   module _ (t : types-ok Γ ≡ true) (f : function-ok Γ fn ≡ true) (p : places-ok fn ≡ true) where
     -- the store is too short
-    denied-store : leb (most * join-points fn) (cond (leb nforms nwhats) nforms nwhats) ≡ false → Checked Γ fn nforms nwhats offs points 10
+    denied-store : leb (most * join-points fn) (cond (leb nforms nwhats) nforms nwhats) ≡ false → Checked Γ fn nforms nwhats points 10
     unfolding ghost-statements
-    denied-store e = record { denied = λ n. cc; passed = λ z. absurd (omega arith); clear = λ z. absurd (omega arith) }
+    denied-store e = record { denied = λ n. cc; passed = λ z. absurd (omega arith); clear = λ z o R. absurd (omega arith) }
 
     -- its first array is
-    pub denied-forms : nforms < most * join-points fn → Checked Γ fn nforms nwhats offs points 10
+    pub denied-forms : nforms < most * join-points fn → Checked Γ fn nforms nwhats points 10
     denied-forms h = denied-store (first-shorter (most * join-points fn) nforms nwhats h)
 
     -- its second array is
-    pub denied-whats : nwhats < most * join-points fn → Checked Γ fn nforms nwhats offs points 10
+    pub denied-whats : nwhats < most * join-points fn → Checked Γ fn nforms nwhats points 10
     denied-whats h = denied-store (second-shorter (most * join-points fn) nforms nwhats h)
 
     -- all pass
-    pub all-pass : Clear Γ fn nforms nwhats offs points → Checked Γ fn nforms nwhats offs points 0
+    pub all-pass : Formed fn → Shared fn points → most * join-points fn ≤ nforms → most * join-points fn ≤ nwhats → Checked Γ fn nforms nwhats points 0
     unfolding ghost-statements
-    all-pass C =
+    all-pass L S h k =
         let e : leb (most * join-points fn) (cond (leb nforms nwhats) nforms nwhats) ≡ true =
-        both-shorter (most * join-points fn) nforms nwhats (C .forms) (C .whats) in
-        record { denied = λ n. absurd (omega arith); passed = λ z. cc; clear = λ z. C }
+        both-shorter (most * join-points fn) nforms nwhats h k in
+        record {
+          denied = λ n. absurd (omega arith);
+          passed = λ z. cc;
+          clear = λ z offs R. record { accepted = record { ready = R; function = f; formed = L; places = p }; shared = S; forms = h; whats = k };
+        }

@@ -4,7 +4,7 @@ use mathlib.Core.Logic.{_≢_}
 use mathlib.Core.Bool.{cond}
 use mathlib.Core.List.{List}
 use Prim.Native.Nat.{ℕ, _*_, _≤_}
-use lib.ListN.{length}
+use lib.ListN.{length, replicate}
 use lib.Dec.{leb}
 use Rattle.model.specs.Answer.{Answer, refused, done}
 use Rattle.model.specs.Tree.{Forest}
@@ -14,6 +14,7 @@ use Rattle.model.specs.Block.{entry-point, join-points}
 use Rattle.model.specs.Passes.{Found}
 use Rattle.model.specs.Record.{entries, lent}
 use Rattle.model.specs.Whole.{passes, ghost-statements, shares, whole}
+use Rattle.type_record.specs.Sizes.{Ready}
 use Rattle.statements.specs.Kept.{Counted, Kept}
 use Rattle.statements.specs.declared.Out.{Out}
 use Rattle.state.specs.Given.{Accepted}
@@ -35,6 +36,12 @@ pub record Whole (Γ fn fs ws out fs′ ws′ out′ : List ℕ) (r : Ghosts) : 
   pub whats : ws′ ≡ (whole Γ fn (length fs) (length ws) (length out)) .whats
   pub record-is : out′ ≡ (whole Γ fn (length fs) (length ws) (length out)) .out
 
+-- zeros in all that was lent
+pub record All-zero (fs ws out : List ℕ) : Type 0 where
+  pub forms : fs ≡ replicate (length fs) 0
+  pub whats : ws ≡ replicate (length ws) 0
+  pub blank : out ≡ replicate (length out) 0
+
 -- the records pass, the arrays that the passes read are filled, and the store is large enough
 pub record Clear (Γ fn : List ℕ) (nforms nwhats : ℕ) (offs points : List ℕ) : Type 0 where
   pub accepted : Accepted Γ offs fn
@@ -42,11 +49,11 @@ pub record Clear (Γ fn : List ℕ) (nforms nwhats : ℕ) (offs points : List �
   pub forms : most * join-points fn ≤ nforms
   pub whats : most * join-points fn ≤ nwhats
 
--- what is tested before the passes: r is the refusal, or 0
-pub record Checked (Γ fn : List ℕ) (nforms nwhats : ℕ) (offs points : List ℕ) (r : ℕ) : Type 0 where
+-- what is tested before the passes, of types that pass: r is the refusal, or 0
+pub record Checked (Γ fn : List ℕ) (nforms nwhats : ℕ) (points : List ℕ) (r : ℕ) : Type 0 where
   pub denied : r ≢ 0 → ghost-statements Γ fn (cond (leb nforms nwhats) nforms nwhats) ≡ refused r
   pub passed : r ≡ 0 → ghost-statements Γ fn (cond (leb nforms nwhats) nforms nwhats) ≡ passes Γ fn
-  pub clear : r ≡ 0 → Clear Γ fn nforms nwhats offs points
+  pub clear : r ≡ 0 → (offs : List ℕ) → Ready Γ offs → Clear Γ fn nforms nwhats offs points
 
 -- what both passes leave, of records that pass
 pub record Analysed (Γ fn fs ws out fs′ ws′ out′ : List ℕ) (r : Visit) : Type 0 where

@@ -25,10 +25,6 @@ use Rattle.arrival.specs.declared.jump.Visit.{Visit}
 use Rattle.arrival.specs.declared.jump.Visit.the-variants.{Over, Refused}
 use Rattle.arrival.specs.Memory.{Memory, store-of, with-store, log-of, with-log, enters, jumps}
 
--- room for the offset of each type's parts and the share of each block
-abbrev pub Tables : List ℕ → List ℕ → Type 0
-Tables os points = (4096 ≤ length os) × (256 ≤ length points)
-
 -- the store is all zeros
 abbrev pub Wiped : List ℕ → List ℕ → Type 0
 Wiped fs ws = (fs ≡ replicate (length fs) 0) × (ws ≡ replicate (length ws) 0)

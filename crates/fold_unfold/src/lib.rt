@@ -1,13 +1,15 @@
 // The whole-function call: the statements of a function.
 ghost use mathlib.Core.Path.{_≡_};
-ghost use Prim.Native.Nat.{ℕ};
+ghost use mathlib.Core.Bool.{true};
+ghost use Prim.Native.Nat.{ℕ, _≤_};
 ghost use lib.ListN.{length, replicate};
+ghost use Rattle.model.specs.Types.{types-ok};
 ghost use Rattle.model.specs.Replay.{Replayed};
 ghost use Rattle.model.specs.Promised.{One-of, whole-numbers};
+ghost use Rattle.type_record.specs.Sizes.{Ready};
 ghost use Rattle.blocks.specs.Points.{Zeros};
-ghost use Rattle.fold_unfold.specs.Answers.{Whole, Checked};
+ghost use Rattle.fold_unfold.specs.Answers.{Whole, All-zero, Checked};
 ghost use Rattle.fold_unfold.specs.declared.Ghosts.the-variants.{Done, Refused};
-ghost use Rattle.fold_unfold.specs.Runs.{Tables};
 
 pub mod run;
 
@@ -26,7 +28,7 @@ pub enum Ghosts {
     Refused(u32),
 }
 
-fn wipe16(a: &mut [u16])
+pub fn wipe16(a: &mut [u16])
     ensures { λ r. ⌜ now (a .exit) ≡ replicate (length (now (a .entry))) 0 ⌝ }
 {
     let n = a.len();
@@ -37,22 +39,13 @@ fn wipe16(a: &mut [u16])
     }
 }
 
-// Refusals 1, 2, 4, and 10 for the store, or 0. offs then has the offsets of the parts, points the numbers of the shares.
-fn checked(
-    types: &[u32],
-    fun: &[u32],
-    offs: &mut [u32],
-    points: &mut [u32],
-    forms: usize,
-    whats: usize,
-) -> u32
-    requires { ⌜ Tables (now offs) (now points) ⌝ }
+// Refusals 2, 4, and 10 for the store, or 0. points then has the numbers of the shares.
+fn checked(types: &[u32], fun: &[u32], points: &mut [u32], forms: usize, whats: usize) -> u32
+    requires { ⌜ types-ok (now types) ≡ true ⌝ }
+    requires { ⌜ 256 ≤ length (now points) ⌝ }
     requires { ⌜ Zeros (now points) ⌝ }
-    ensures { λ r. ⌜ Checked (now (types .entry)) (now (fun .entry)) forms whats (now (offs .exit)) (now (points .exit)) r ⌝ }
+    ensures { λ r. ⌜ Checked (now (types .entry)) (now (fun .entry)) forms whats (now (points .exit)) r ⌝ }
 {
-    if !check_types(types, offs) {
-        return 1;
-    }
     if !check_function(types, fun) {
         return 2;
     }
@@ -69,28 +62,27 @@ fn checked(
     0
 }
 
-// `add_ghost_statements`: the statements of a function. A refusal leaves zeros in all that was lent.
-pub fn ghost_statements(
+// The statements of a function, over types that pass, into arrays of zeros. A refusal leaves zeros in all that was lent.
+pub fn function_statements(
     types: &[u32],
+    offs: &[u32],
     fun: &[u32],
     forms: &mut [u16],
     whats: &mut [u16],
     out: &mut [u32],
 ) -> Ghosts
+    requires { ⌜ Ready (now types) (now offs) ⌝ }
+    requires { ⌜ All-zero (now forms) (now whats) (now out) ⌝ }
     ensures { λ r. ⌜ Whole (now (types .entry)) (now (fun .entry)) (now (forms .entry)) (now (whats .entry)) (now (out .entry)) (now (forms .exit)) (now (whats .exit)) (now (out .exit)) r ⌝ }
     ensures replayed { λ r. ⌜ ((a b : ℕ) → r ≡ Done a b → Replayed (now (types .entry)) (now (fun .entry)) (now (out .exit))) ⌝ }
     ensures numbered { λ r. ⌜ ((n : ℕ) → r ≡ Refused n → One-of whole-numbers n) ⌝ }
 {
-    let mut offs = [0u32; 4096];
     let mut points = [0u32; 256];
-    wipe16(forms);
-    wipe16(whats);
-    wipe(out);
-    let r = checked(types, fun, &mut offs, &mut points, forms.len(), whats.len());
+    let r = checked(types, fun, &mut points, forms.len(), whats.len());
     if r != 0 {
         return Ghosts::Refused(r);
     }
-    let v = analyse(types, &offs, fun, &points, forms, whats, out);
+    let v = analyse(types, offs, fun, &points, forms, whats, out);
     match v {
         Visit::Refused(n) => {
             wipe16(forms);
@@ -111,4 +103,26 @@ pub fn ghost_statements(
             }
         }
     }
+}
+
+// `add_ghost_statements`: the statements of a function. A refusal leaves zeros in all that was lent.
+pub fn ghost_statements(
+    types: &[u32],
+    fun: &[u32],
+    forms: &mut [u16],
+    whats: &mut [u16],
+    out: &mut [u32],
+) -> Ghosts
+    ensures { λ r. ⌜ Whole (now (types .entry)) (now (fun .entry)) (now (forms .entry)) (now (whats .entry)) (now (out .entry)) (now (forms .exit)) (now (whats .exit)) (now (out .exit)) r ⌝ }
+    ensures replayed { λ r. ⌜ ((a b : ℕ) → r ≡ Done a b → Replayed (now (types .entry)) (now (fun .entry)) (now (out .exit))) ⌝ }
+    ensures numbered { λ r. ⌜ ((n : ℕ) → r ≡ Refused n → One-of whole-numbers n) ⌝ }
+{
+    let mut offs = [0u32; 4096];
+    wipe16(forms);
+    wipe16(whats);
+    wipe(out);
+    if !check_types(types, &mut offs) {
+        return Ghosts::Refused(1);
+    }
+    function_statements(types, &offs, fun, forms, whats, out)
 }

@@ -2,3 +2,4 @@
 pub mod check_function;
 pub mod function;
 pub mod items;
+pub mod split;

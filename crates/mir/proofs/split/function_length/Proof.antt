@@ -1,9 +1,9 @@
--- `text::split::function_length` meets its contract. Assumes nothing.
+-- `mir::split::function_length` meets its contract. Assumes nothing.
 use borrow.Author.Needs.{needs}
 use native.Mathlib.Omega.{arith}
-use Rattle.model.specs.Ghosts.{function-length}
-use Rattle.text.proofs.split.function_length.Statement.{statement}
-use Rattle.text.proofs.split.function_length.Tie as tie
+use Rattle.model.specs.Function.{function-length}
+use Rattle.mir.proofs.split.function_length.Statement.{statement}
+use Rattle.mir.proofs.split.function_length.Tie as tie
 
 word-requires : tie.Need-word-requires
 word-requires c κs = search needs

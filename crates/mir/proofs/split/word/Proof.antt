@@ -1,10 +1,10 @@
--- `text::split::word` meets its contract. Assumes nothing.
+-- `mir::split::word` meets its contract. Assumes nothing.
 use borrow.Author.Needs.{needs}
 use mathlib.Core.Path.{sym}
 use native.Mathlib.Omega.{arith}
 use lib.ListN.{List·getD-eq-default}
-use Rattle.text.proofs.split.word.Statement.{statement}
-use Rattle.text.proofs.split.word.Tie as tie
+use Rattle.mir.proofs.split.word.Statement.{statement}
+use Rattle.mir.proofs.split.word.Tie as tie
 
 mul-wide : tie.Need-mul-wide
 mul-wide c = search needs
