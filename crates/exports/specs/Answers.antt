@@ -1,10 +1,13 @@
 -- The exported calls' answers as model's.
 use mathlib.Core.Path.{_≡_}
 use mathlib.Core.List.{List}
-use Prim.Native.Nat.{ℕ}
+use Prim.Native.Nat.{ℕ, _+_, _*_}
 use lib.ListN.{length}
+use Rattle.model.specs.Words.{word}
 use Rattle.model.specs.Answer.{Answer, refused, done}
 use Rattle.model.specs.Whole.{whole}
+use Rattle.model.specs.Crate.{Verdict, passed, stopped, crate-statements}
+use Rattle.model.specs.Promised.{Refused-at}
 use Rattle.model.specs.Assign.{statement-items, items-lent}
 
 -- the refusal, or 0: no refusal has that number
@@ -24,3 +27,21 @@ pub record Exported (Γ fn fs ws out fs′ ws′ out′ : List ℕ) (r : ℕ) : 
 pub record Exported-items (ws : List ℕ) (n : ℕ) (out′ : List ℕ) (r : ℕ) : Type 0 where
   pub answer : r ≡ number (statement-items ws n)
   pub left : out′ ≡ items-lent n (statement-items ws n)
+
+-- of a crate: the refusal's number, and 256 times the function's position; or 0
+abbrev pub position-number : Verdict → ℕ
+position-number passed = 0
+position-number (stopped n p) = n + 256 * p
+
+pub record Exported-crate (Γ words fs ws out fs′ ws′ out′ : List ℕ) (r : ℕ) : Type 0 where
+  pub answer : r ≡ position-number ((crate-statements Γ (length fs) (length ws) (length out) words) .verdict)
+  pub forms : fs′ ≡ (crate-statements Γ (length fs) (length ws) (length out) words) .forms
+  pub whats : ws′ ≡ (crate-statements Γ (length fs) (length ws) (length out) words) .whats
+  pub records-are : out′ ≡ (crate-statements Γ (length fs) (length ws) (length out) words) .out
+
+-- its refusal, taken apart
+pub record Refusal-in (words : List ℕ) (r : ℕ) : Type 0 where
+  pub refusal : ℕ
+  pub position : ℕ
+  pub is : r ≡ refusal + 256 * position
+  pub at : Refused-at (word words 0) refusal position

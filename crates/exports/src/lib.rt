@@ -1,17 +1,22 @@
-// The calls for programs in Rust and C, as a static library: the whole-function call, what `ghosts` prints of a text, and the items of a
-// list of statements.
+// The calls for programs in Rust and C, as a static library: the whole-function call, a whole crate in one call, what `ghosts` prints of a
+// text, and the items of a list of statements.
 ghost use mathlib.Core.Path.{_≡_};
+ghost use mathlib.Core.Logic.{_≢_};
 ghost use mathlib.Core.List.{_∷_};
-ghost use lib.ListN.{length, take};
-ghost use Rattle.model.specs.Replay.{Replayed};
+ghost use lib.ListN.{length, take, drop};
+ghost use Rattle.model.specs.Words.{word};
+ghost use Rattle.model.specs.Crate.{records};
+ghost use Rattle.model.specs.Replay.{Replayed, Replayed-each};
 ghost use Rattle.model.specs.Promised.{One-of, whole-numbers, statement-numbers, Answered};
 ghost use Rattle.model.specs.Ghosts.{ghosts};
 ghost use Rattle.answer.specs.Said.{Printed};
-ghost use Rattle.exports.specs.Answers.{Exported, Exported-items};
+ghost use Rattle.exports.specs.Answers.{Exported, Exported-items, Exported-crate, Refusal-in};
 use assign::Items;
 use assign::statement_items;
 use fold_unfold::Ghosts;
 use fold_unfold::ghost_statements;
+use whole_crate::Crate;
+use whole_crate::crate_statements;
 
 // 0, or the refusal. Accepted: the counts of statements and entries are the first two words of out. A refusal leaves zeros in all
 // that was lent.
@@ -31,6 +36,27 @@ pub extern "C" fn exports_ghost_statements(
     match g {
         Ghosts::Refused(n) => n,
         Ghosts::Done { .. } => 0,
+    }
+}
+
+// 0, or the refusal's number and 256 times the function's position. Accepted: the statement records of the functions one after another.
+// words: their count, and their records one after another. A refusal leaves zeros in all that was lent.
+#[no_mangle]
+pub extern "C" fn exports_crate_statements(
+    types: &[u32],
+    words: &[u32],
+    forms: &mut [u16],
+    whats: &mut [u16],
+    out: &mut [u32],
+) -> u32
+    ensures { λ r. ⌜ Exported-crate (now (types .entry)) (now (words .entry)) (now (forms .entry)) (now (whats .entry)) (now (out .entry)) (now (forms .exit)) (now (whats .exit)) (now (out .exit)) r ⌝ }
+    ensures replayed { λ r. ⌜ (r ≡ 0 → Replayed-each (now (types .entry)) (records (word (now (words .entry)) 0) (drop 1 (now (words .entry)))) (now (out .exit))) ⌝ }
+    ensures numbered { λ r. ⌜ (r ≢ 0 → Refusal-in (now (words .entry)) r) ⌝ }
+{
+    let g = crate_statements(types, words, forms, whats, out);
+    match g {
+        Crate::Refused { number, position } => number + 256 * position,
+        Crate::Done => 0,
     }
 }
 

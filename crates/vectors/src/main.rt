@@ -30,9 +30,10 @@ fn answer(words: &[u32]) {
     match call {
         1 => checks::types(rest),
         2 => checks::function(rest),
-        3 => whole::call(rest),
+        3 => whole::call(call, rest),
         4..=7 => places::call(call, rest),
         12 => items::call(rest),
+        13 => whole::call(call, rest),
         _ => states::call(call, rest),
     }
     print_text(b"\n");

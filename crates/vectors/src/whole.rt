@@ -1,4 +1,4 @@
-// The whole-function call.
+// The whole-function call, and that of a whole crate: 3 ghost_statements, 13 crate_statements.
 ghost use mathlib.Core.Path.{_≡_};
 ghost use Prim.Native.Nat.{_≤_};
 ghost use lib.ListN.{length};
@@ -11,6 +11,8 @@ use stream::print_halves;
 use stream::print_number;
 use stream::print_words;
 use type_record::record::wide;
+use whole_crate::Crate;
+use whole_crate::crate_statements;
 
 // An array of the store as it is lent: not zeros, so that it shows what is left in it.
 fn store() -> [u16; 16384]
@@ -33,7 +35,14 @@ pub fn least(n: u32, most: usize) -> usize
     if k < most { k } else { most }
 }
 
-fn answered(types: &[u32], fun: &[u32], forms: &mut [u16], whats: &mut [u16], out: &mut [u32]) {
+// What was lent.
+fn print_lent(forms: &[u16], whats: &[u16], out: &[u32]) {
+    print_words(out);
+    print_halves(forms);
+    print_halves(whats);
+}
+
+fn function(types: &[u32], fun: &[u32], forms: &mut [u16], whats: &mut [u16], out: &mut [u32]) {
     let r = ghost_statements(types, fun, forms, whats, out);
     match r {
         Ghosts::Refused(n) => print_number(wide(n)),
@@ -46,13 +55,38 @@ fn answered(types: &[u32], fun: &[u32], forms: &mut [u16], whats: &mut [u16], ou
             print_number(entries);
         }
     }
-    print_words(out);
-    print_halves(forms);
-    print_halves(whats);
+    print_lent(forms, whats, out);
 }
 
-// The lengths of the store's arrays and of the buffer, then both records.
-pub fn call(words: &[u32]) {
+fn functions(types: &[u32], words: &[u32], forms: &mut [u16], whats: &mut [u16], out: &mut [u32]) {
+    let r = crate_statements(types, words, forms, whats, out);
+    match r {
+        Crate::Refused { number, position } => {
+            print_number(wide(number));
+            print_number(wide(position));
+        }
+        Crate::Done => print_number(0),
+    }
+    print_lent(forms, whats, out);
+}
+
+fn answered(
+    which: u32,
+    types: &[u32],
+    words: &[u32],
+    forms: &mut [u16],
+    whats: &mut [u16],
+    out: &mut [u32],
+) {
+    if which == 3 {
+        function(types, words, forms, whats, out);
+        return;
+    }
+    functions(types, words, forms, whats, out);
+}
+
+// The lengths of the store's arrays and of the buffer, then the type record and the function's, or a crate's count and records.
+pub fn call(which: u32, words: &[u32]) {
     let mut forms = store();
     let mut whats = store();
     let mut out = buffer();
@@ -61,6 +95,7 @@ pub fn call(words: &[u32]) {
     let o = least(number(words, 0, 2), 4096);
     let a = end_of(words, 3);
     answered(
+        which,
         list(words, 3),
         list(words, a),
         &mut forms[..f],
