@@ -10,9 +10,11 @@
 //! arg_count A                 of collect_folds_at_ret
 //! room F W O                  lengths of the lent arrays: store forms, store whats, output;
 //!                             of a collecting call and of statement_items: O alone
-//! list W..                    a list of statements, of statement_items
+//! list W..                    a list of statements, of statement_items; count and records, of
+//!                             crate_statements
 //! input B..                   the bytes on standard input of `ghosts`
 //! answer accepted W..  or  answer refused N
+//! position P                  of crate_statements: the function refused, counted from 1, or 0
 //! out W..                     the output
 //! share_forms J W..  share_whats J W..  the share of the J-th join point
 //! after_count, after_forms, after_whats (and with a 2)   the state that a call gives
@@ -23,7 +25,7 @@
 //! The words after `accepted`: of `function` the number of join points; of `whole` and the
 //! collecting calls statements and entries; of `statement_items` the number of items; of `projection`
 //! 0 nothing, 1 fold, or 2 and the number of elements to record; of `join` the flag; of `join_nodes`
-//! both flags.
+//! both flags; of `crate_statements` statements and entries of each function.
 //! State arrays, `out` and shares are written without the zeros at their end, and a share that
 //! is all zero isn't written. After a refusal all that was lent is zero, and states are as they
 //! came.
@@ -39,6 +41,7 @@ use crate::{
     state::{trimmed, State, MAX_NODES},
     statements::statement_items,
     types::Types,
+    whole_crate::crate_statements,
 };
 
 #[derive(Clone, Copy, PartialEq, Eq, Debug)]
@@ -62,6 +65,8 @@ pub enum Call {
     CollectFoldsAtRet,
     /// `statements::statement_items`.
     StatementItems,
+    /// `whole_crate::crate_statements`.
+    CrateStatements,
 }
 
 impl Call {
@@ -93,6 +98,7 @@ impl Call {
             Call::CollectUnfolds => "collect_unfolds",
             Call::CollectFoldsAtRet => "collect_folds_at_ret",
             Call::StatementItems => "statement_items",
+            Call::CrateStatements => "crate_statements",
         }
     }
 
@@ -123,7 +129,7 @@ pub struct Case {
     pub number: u32,
     pub room: Vec<usize>,
     pub input: Vec<u8>,
-    /// Statements.
+    /// Statements; or the count and the records of a crate.
     pub list: Vec<u32>,
 }
 
@@ -160,6 +166,10 @@ impl Case {
 
     pub fn statement_items(list: Vec<u32>, room: usize) -> Case {
         Case { list, room: vec![room], ..Case::new(Call::StatementItems) }
+    }
+
+    pub fn crate_statements(types: Vec<u32>, list: Vec<u32>, room: [usize; 3]) -> Case {
+        Case { types, list, room: room.to_vec(), ..Case::new(Call::CrateStatements) }
     }
 
     pub fn set_place(&mut self, items: &[(u32, u32)]) {
@@ -213,6 +223,7 @@ impl Case {
             Call::StatementItems => {
                 self.answer_lent(|out| statement_items(&self.list, out).map(|count| vec![count]))
             }
+            Call::CrateStatements => self.answer_crate(),
         }
     }
 
@@ -223,13 +234,33 @@ impl Case {
         Ok(body.join_points().count())
     }
 
-    /// The lent arrays hold other than zeros at first, so that what isn't written shows.
     fn answer_whole(&self) -> Answer {
+        let (result, lines) = self.answer_stored(|forms, whats, out| {
+            calls::ghost_statements(&self.types, &self.function, forms, whats, out)
+        });
+        Answer { result: result.map(counted), lines }
+    }
+
+    fn answer_crate(&self) -> Answer {
+        let (result, mut lines) = self.answer_stored(|forms, whats, out| {
+            crate_statements(&self.types, &self.list, forms, whats, out)
+        });
+        let position = result.as_ref().err().map_or(0, |&(_, position)| position);
+        push_line(&mut lines, "position", &[position]);
+        let result = result.map(|counts| counts.into_iter().flat_map(counted).collect());
+        Answer { result: result.map_err(|(refusal, _)| refusal), lines }
+    }
+
+    /// Of a call to which store and output are lent. They hold other than zeros at first, so that what
+    /// isn't written shows.
+    fn answer_stored<A, E>(
+        &self,
+        call: impl FnOnce(&mut [u16], &mut [u16], &mut [u32]) -> Result<A, E>,
+    ) -> (Result<A, E>, String) {
         let mut forms = vec![0xaaaa; self.room[0]];
         let mut whats = vec![0xaaaa; self.room[1]];
         let mut out = vec![0xaaaa_aaaa; self.room[2]];
-        let result =
-            calls::ghost_statements(&self.types, &self.function, &mut forms, &mut whats, &mut out);
+        let result = call(&mut forms, &mut whats, &mut out);
         let mut lines = String::new();
         if result.is_ok() {
             push_line(&mut lines, "out", trimmed(&out));
@@ -241,7 +272,7 @@ impl Case {
                 }
             }
         }
-        Answer { result: result.map(counted), lines }
+        (result, lines)
     }
 
     fn answer_ghosts(&self) -> Answer {
@@ -309,6 +340,7 @@ impl Case {
         match self.call {
             Call::Types => {}
             Call::Function | Call::Whole => push_line(text, "function", &self.function),
+            Call::CrateStatements => push_line(text, "list", &self.list),
             _ => push_line(text, "locals", &self.locals),
         }
         for (state, suffix) in self.states.iter().zip(["", "2"]) {

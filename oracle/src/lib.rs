@@ -29,6 +29,8 @@ pub mod state;
 pub mod statements;
 /// The type record and refusal 1.
 pub mod types;
+/// A whole crate in one call.
+pub mod whole_crate;
 
 /// One test case with its answer, as lines of words.
 pub mod case;

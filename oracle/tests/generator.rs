@@ -13,7 +13,7 @@ fn some(kind: Kind, size: Size, want: u32, count: usize) -> Vec<Case> {
 }
 
 /// Which refusals each call can give.
-const GIVES: [(Call, &[u32]); 14] = [
+const GIVES: [(Call, &[u32]); 15] = [
     (Call::Whole, &[0, 1, 2, 4, 5, 6, 8, 9, 10]),
     (Call::Types, &[0, 1]),
     (Call::Function, &[0, 1, 2, 4]),
@@ -28,6 +28,7 @@ const GIVES: [(Call, &[u32]); 14] = [
     (Call::CollectUnfolds, &[0, 1, 3, 7, 10]),
     (Call::CollectFoldsAtRet, &[0, 1, 3, 10]),
     (Call::StatementItems, &[0, 2, 10, 11]),
+    (Call::CrateStatements, &[0, 1, 2, 4, 5, 6, 8, 9, 10]),
 ];
 
 #[test]

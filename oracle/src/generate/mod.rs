@@ -1,6 +1,7 @@
 //! The generator of cases, from a seed. `random` gives one case of a kind; `limits` the cases
 //! round each limit.
 
+pub mod crates;
 pub mod damage;
 pub mod draft;
 pub mod full;
@@ -46,8 +47,9 @@ impl Kind {
             "words" => return Some(Kind::Words),
             _ => {}
         }
-        let calls = [Call::Types, Call::Function, Call::Whole, Call::Ghosts, Call::StatementItems];
-        let mut calls = calls.into_iter().chain(Call::ON_STATES);
+        let calls = [Call::Types, Call::Function, Call::Whole, Call::Ghosts];
+        let calls = calls.into_iter().chain([Call::StatementItems, Call::CrateStatements]);
+        let mut calls = calls.chain(Call::ON_STATES);
         calls.find(|call| call.name() == name).map(Kind::Call)
     }
 }
@@ -79,6 +81,7 @@ fn any(rng: &mut Rng, kind: Kind, size: Size) -> Case {
         Kind::Call(Call::Function) => whole::function_case(rng, size),
         Kind::Call(Call::Ghosts) => whole::ghosts_case(rng, size),
         Kind::Call(Call::StatementItems) => statements::statements_case(rng, size),
+        Kind::Call(Call::CrateStatements) => crates::crate_case(rng, size),
         Kind::Call(Call::Whole) => unreachable!("made by `whole_case`"),
         Kind::Call(call) => states::random_case(rng, call, size),
     }

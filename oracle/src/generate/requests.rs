@@ -1,6 +1,7 @@
 //! Cases for the requests of document 02, each with a name.
 
 use super::{
+    crates::crates,
     draft::{push_note, push_return, push_switch, push_use, Draft},
     limits::{root, whole, Named},
     statements::lists,
@@ -15,6 +16,7 @@ use PlaceElem::{Deref, Downcast, Field, Index};
 pub fn requests(cases: &mut Vec<Named>) {
     elements(cases);
     lists(cases);
+    crates(cases);
 }
 
 const ARRAY: Ty = 1;
