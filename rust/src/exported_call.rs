@@ -18,6 +18,19 @@ mod foreign {
             out_len: usize,
         ) -> u32;
 
+        pub fn exports_crate_statements(
+            types: *const u32,
+            types_len: usize,
+            words: *const u32,
+            words_len: usize,
+            forms: *mut u16,
+            forms_len: usize,
+            whats: *mut u16,
+            whats_len: usize,
+            out: *mut u32,
+            out_len: usize,
+        ) -> u32;
+
         /// An array is passed as its pointer.
         pub fn exports_ghosts(bytes: *const u8, bytes_len: usize, text: *mut u8) -> usize;
 
@@ -30,10 +43,25 @@ mod foreign {
     }
 }
 
-/// The words as they are lent; 0 or the refusal.
-pub fn exported(
+/// A call over a type record, other words, a store and an output.
+type Call = unsafe extern "C" fn(
+    *const u32,
+    usize,
+    *const u32,
+    usize,
+    *mut u16,
+    usize,
+    *mut u16,
+    usize,
+    *mut u32,
+    usize,
+) -> u32;
+
+/// One of the two calls of that kind, over slices as they are lent.
+fn over_store(
+    call: Call,
     types: &[u32],
-    function: &[u32],
+    words: &[u32],
     forms: &mut [u16],
     whats: &mut [u16],
     out: &mut [u32],
@@ -45,11 +73,11 @@ pub fn exported(
     // What it owes is proved of its source: it reads and writes inside the slices alone, keeps no
     // pointer, and ends. That it has enough stack is up to `run` in `stack.rs`.
     unsafe {
-        foreign::exports_ghost_statements(
+        call(
             types.as_ptr(),
             types.len(),
-            function.as_ptr(),
-            function.len(),
+            words.as_ptr(),
+            words.len(),
             forms.as_mut_ptr(),
             forms.len(),
             whats.as_mut_ptr(),
@@ -58,6 +86,28 @@ pub fn exported(
             out.len(),
         )
     }
+}
+
+/// A function; 0 or the refusal.
+pub fn exported(
+    types: &[u32],
+    function: &[u32],
+    forms: &mut [u16],
+    whats: &mut [u16],
+    out: &mut [u32],
+) -> u32 {
+    over_store(foreign::exports_ghost_statements, types, function, forms, whats, out)
+}
+
+/// A crate's count and records; 0, or the refusal and 256 times its position.
+pub fn exported_crate(
+    types: &[u32],
+    words: &[u32],
+    forms: &mut [u16],
+    whats: &mut [u16],
+    out: &mut [u32],
+) -> u32 {
+    over_store(foreign::exports_crate_statements, types, words, forms, whats, out)
 }
 
 /// What `ghosts` prints of these bytes is put at the start of `text`; how long it is.

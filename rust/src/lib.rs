@@ -19,7 +19,8 @@
 //! ```
 //!
 //! Records are laid out as document 01 says. [`Types`] and [`Function`] write them; the example
-//! beside [`Function`] is the worked example of document 01.
+//! beside [`Function`] is the worked example of document 01. [`crate_statements`] takes all functions of
+//! a crate at once.
 
 #![deny(unsafe_code)]
 
@@ -32,6 +33,7 @@ mod sizes;
 mod stack;
 mod statements;
 mod types;
+mod whole_crate;
 
 pub use assign::{
     statement_items, statement_items_into, statement_list, Assign, Items, Operand, Rvalue,
@@ -42,6 +44,9 @@ pub use refusal::Refusal;
 pub use stack::{CALLERS_BLOCKS, STACK};
 pub use statements::{read_record, Point, Statement, Statements, Stored, Verb, SHARE};
 pub use types::{Later, Pointer, Type, Types, Variant};
+pub use whole_crate::{
+    crate_statements, crate_statements_into, crate_words, CrateRefusal, MOST_FUNCTIONS,
+};
 
 use exported_call::{exported, exported_ghosts, PAGE};
 use sizes::{Sizes, MAX_BLOCKS};

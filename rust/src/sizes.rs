@@ -1,6 +1,6 @@
 //! What the wrapper has to know of a function record before the call: any words at all.
 
-use crate::function::TARGET;
+use crate::{function::TARGET, whole_crate::MOST_FUNCTIONS};
 
 pub const MAX_BLOCKS: u32 = 256;
 const MAX_ITEMS: u32 = 16384;
@@ -59,4 +59,32 @@ impl Sizes {
     pub fn longest_record(&self) -> usize {
         2 + 2 * STATEMENT_ENTRIES * ITEM_STATEMENTS * (self.items + 1)
     }
+}
+
+/// The length that a function record's sizes as written say, whatever they are.
+fn written_length(words: &[u32]) -> Option<u64> {
+    let &[locals, _, blocks, items, ..] = words else { return None };
+    let [locals, blocks, items] = [locals, blocks, items].map(u64::from);
+    Some(4 + locals + 2 * blocks + 2 * items)
+}
+
+/// Whether a function record ends there.
+pub fn is_as_long_as_written(function: &[u32]) -> bool {
+    written_length(function) == Some(function.len() as u64)
+}
+
+/// The most blocks that a function of a crate has, of those whose records are there: the count, then the
+/// records one after another.
+pub fn most_blocks(words: &[u32]) -> usize {
+    let Some((&count, mut words)) = words.split_first() else { return 0 };
+    let mut most = 0;
+    for _ in 0..count.min(MOST_FUNCTIONS as u32) {
+        let Some(length) = written_length(words).filter(|&n| n <= words.len() as u64) else {
+            break;
+        };
+        let (record, behind) = words.split_at(length as usize);
+        most = most.max(if record[2] <= MAX_BLOCKS { record[2] } else { 0 });
+        words = behind;
+    }
+    most as usize
 }

@@ -79,11 +79,12 @@ impl Statements {
         &self.join_points
     }
 
-    /// The final state of a join point.
+    /// The final state of a join point. Of [`crate::crate_statements`] only the last function has it.
     pub fn stored(&self, block: u32) -> Option<Stored<'_>> {
         let share = self.join_points.binary_search(&block).ok()?;
         let entries = share * SHARE..(share + 1) * SHARE;
-        Some(Stored { forms: &self.forms[entries.clone()], whats: &self.whats[entries] })
+        let (forms, whats) = (self.forms.get(entries.clone())?, self.whats.get(entries)?);
+        Some(Stored { forms, whats })
     }
 }
 

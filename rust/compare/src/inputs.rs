@@ -174,6 +174,45 @@ pub fn many_types() -> Input {
     input
 }
 
+/// A device model: so many functions over one type record of 4,096 types, as types and function records.
+/// Each restores an enum of three host ages behind a mutable reference: a match whose arms meet again,
+/// then uses of a struct's fields and of all of it.
+pub fn device_model(count: usize) -> (Vec<u32>, Vec<Vec<u32>>) {
+    let mut types = Types::new();
+    let int = types.opaque();
+    let regs = types.structure(&[int; 6]);
+    let ages: Vec<_> = (0..3).map(|age| types.variant(age, &[int, regs])).collect();
+    let age = types.enumeration(&ages);
+    let model = types.structure(&[regs, age, int]);
+    let lent = types.mut_ref(model);
+    let mut last = int;
+    for _ in 8..MAX_TYPES {
+        last = types.structure(&[int, last, int]);
+    }
+    let restore = |n: usize| {
+        let mut function = Function::new(int, &[lent], &[int, regs]);
+        let labels = labels(&mut function, 6);
+        let place = Place::local(1).deref();
+        let saved = place.clone().field(1);
+        let start = Open::new().used(&place.clone().field(2)).read(&saved).note(&Place::local(2));
+        let switch = start.switch(&Place::local(2));
+        let switch = (0..3).fold(switch, |switch, age| switch.arm(age, labels[1 + age as usize]));
+        function.write(labels[0], switch.otherwise(labels[5]));
+        for age in 0..3 {
+            let saved = saved.clone().downcast(age);
+            let parts = (0..4).map(|k| saved.clone().field(1).field((n as u32 + k) % 6));
+            let block = parts.fold(Open::new(), |block, part| block.used(&part));
+            function.write(labels[1 + age as usize], block.used(&saved.field(0)).goto(labels[4]));
+        }
+        let parts = (0..6).map(|k| place.clone().field(0).field((n as u32 + k) % 6));
+        let block = parts.fold(Open::new(), |block, part| block.used(&part));
+        function.write(labels[4], block.used(&place.clone().field(0)).used(&Place::local(3)).ret());
+        function.write(labels[5], Open::new().stop());
+        function.record()
+    };
+    (types.record(), (0..count).map(restore).collect())
+}
+
 /// So many statements: all kinds in turn, over places of one element.
 pub fn assigns(count: usize) -> Vec<Assign> {
     let statement = |n: usize| {
@@ -234,6 +273,10 @@ mod tests {
     #[test]
     fn others() {
         assert_eq!(stored(&many_types()), (0, 0));
+        let (types, functions) = device_model(2);
+        assert_eq!(types[0], MAX_TYPES as u32);
+        let one = hirvoksne::ghost_statements(&types, &functions[1]).unwrap();
+        assert_eq!((one.join_points(), one.len() > 3), (&[4][..], true));
         assert!(small(3).iter().all(|input| input.sizes().0 == 10));
     }
 }

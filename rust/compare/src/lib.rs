@@ -2,5 +2,7 @@
 
 /// Functions to measure.
 pub mod inputs;
+/// What a call leaves.
+pub mod left;
 /// Options of the programs.
 pub mod options;

@@ -8,15 +8,18 @@
 //! ```
 //!
 //! The second table is of lists of statements, whose items both sides write into a buffer that is just
-//! long enough.
+//! long enough; the third of crates, by the library alone: all functions in one call, beside a call for
+//! each.
 
 use std::{hint::black_box, time::Instant};
 
 use compare::{
-    inputs::{assigns, items, large, many_types, match_chain, rounds, small, Input},
+    inputs::{assigns, device_model, items, large, many_types, match_chain, rounds, small, Input},
     options::Options,
 };
-use hirvoksne::{statement_list, SHARE};
+use hirvoksne::{
+    crate_statements, crate_statements_into, crate_words, on_this_thread, statement_list, SHARE,
+};
 
 /// One side's call over what is lent.
 type Side = fn(&Input, &mut Lent) -> Result<(usize, usize), u32>;
@@ -122,6 +125,38 @@ fn print_list(statements: usize, repeats: usize) {
     );
 }
 
+/// A crate of so many functions over 4,096 types: one call beside a call for each.
+fn print_crate(functions: usize, repeats: usize) {
+    let (types, records) = device_model(functions);
+    let statements = crate_statements(&types, &records).expect("accepted");
+    let joins = statements.iter().map(|list| list.join_points().len()).max().unwrap_or(0);
+    let (mut forms, mut whats) = (vec![0; joins * SHARE], vec![0; joins * SHARE]);
+    let words = statements.iter().map(|list| list.record().len()).sum();
+    let mut out = vec![0; words];
+    let crate_words = crate_words(&records);
+    let [together, alone, ratio] = medians(repeats, 1, |side| match side {
+        0 => {
+            let crate_words = black_box(&crate_words);
+            let answer =
+                crate_statements_into(&types, crate_words, &mut forms, &mut whats, &mut out);
+            black_box(answer).expect("accepted");
+        }
+        _ => {
+            let mut used = 0;
+            for record in &records {
+                let room = &mut out[used..];
+                let answer = on_this_thread(&types, record, &mut forms, &mut whats, room);
+                used += 2 + 2 * black_box(answer).expect("accepted").1;
+            }
+        }
+    });
+    let items = records.iter().map(|record| record[3]).sum::<u32>();
+    println!(
+        "| crate-{functions} | {} | {items} | {words} | {together:.1} | {alone:.1} | {ratio:.2} |",
+        types[0]
+    );
+}
+
 /// What is measured: its name, what it is, and its inputs.
 type Kind = (&'static str, &'static str, fn() -> Vec<Input>);
 
@@ -160,5 +195,10 @@ fn main() {
         );
         println!("|---|---|---|---|---|---|---|");
         [512, 1024, 2048, 4096].into_iter().for_each(|statements| print_list(statements, repeats));
+        println!(
+            "\n| name | types | items | words of records | one call µs | a call each µs | ratio |"
+        );
+        println!("|---|---|---|---|---|---|---|");
+        [1, 15, 60].into_iter().for_each(|functions| print_crate(functions, repeats));
     }
 }

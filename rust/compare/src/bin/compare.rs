@@ -1,24 +1,21 @@
 //! The library against the transcription: the same words in, the same words out, to the last:
 //! refusal, counts, both store arrays and the buffer; then the safe call, whose answer and text are
-//! compared too. So with lists of statements: refusal, count and buffer, and the safe call's items.
+//! compared too. So with lists of statements: refusal, count and buffer, and the safe call's items; and
+//! with crates: refusal and position, and the text of each function.
 //!
 //! ```text
 //! compare [--seed S] [--count N]    the cases round each limit, then N random and damaged ones; the
-//!                                   same of lists of statements; then texts for `ghosts`, a tenth as
-//!                                   many
+//!                                   same of lists of statements and of crates; then texts for
+//!                                   `ghosts`, a tenth as many
 //! compare --exhaustive              all short records and lists over a few words, all small functions
 //! ```
 //!
 //! The first difference ends the run with its input. The second run also fails if it accepts too few
 //! function records.
 
-use std::{
-    fmt::{Debug, Write},
-    process::exit,
-    time::Instant,
-};
+use std::{fmt::Write, process::exit, time::Instant};
 
-use compare::options::Options;
+use compare::{left::Left, options::Options};
 use hirvoksne::SHARE;
 use oracle::{
     calls,
@@ -34,6 +31,7 @@ use oracle::{
     },
     ghost_statements::GhostStatements,
     place::{Place, PlaceElem},
+    whole_crate,
 };
 
 fn main() {
@@ -50,6 +48,8 @@ fn main() {
         tally.part(&format!("limits, and {count} cases of seed {seed}"), "statements");
         lists(&mut tally, seed, count);
         tally.part(&format!("limits, and {count} lists of seed {seed}"), "items");
+        crates(&mut tally, seed, count);
+        tally.part(&format!("limits, and {count} crates of seed {seed}"), "functions");
         texts(&mut tally, seed, count / 10);
     }
     println!("{} cases, no difference, {:.1?}", tally.cases, start.elapsed());
@@ -80,53 +80,33 @@ impl<'a> Input<'a> {
     }
 }
 
-/// What a call leaves, with other words lent to each side, so that what isn't written shows.
-struct Left {
-    answer: Result<(usize, usize), u32>,
-    forms: Vec<u16>,
-    whats: Vec<u16>,
-    out: Vec<u32>,
+/// What both sides leave of a function.
+fn function_left(input: &Input) -> [Left<Result<(usize, usize), u32>>; 2] {
+    let Input { types, function, room } = *input;
+    let library = Left::by(room, 0x55, |forms, whats, out| {
+        let answer = hirvoksne::ghost_statements_into(types, function, forms, whats, out);
+        answer.map_err(|refusal| refusal.number())
+    });
+    let oracle = Left::by(room, 0xaa, |forms, whats, out| {
+        let answer = calls::ghost_statements(types, function, forms, whats, out);
+        answer.map_err(|refusal| refusal.number())
+    });
+    [library, oracle]
 }
 
-impl Left {
-    fn of_library(input: &Input) -> Left {
-        let (mut forms, mut whats) = (vec![0x5555; input.room[0]], vec![0x5555; input.room[1]]);
-        let mut out = vec![0x5555_5555; input.room[2]];
-        let Input { types, function, .. } = input;
-        let answer =
-            hirvoksne::ghost_statements_into(types, function, &mut forms, &mut whats, &mut out);
-        Left { answer: answer.map_err(|refusal| refusal.number()), forms, whats, out }
-    }
-
-    fn of_oracle(input: &Input) -> Left {
-        let (mut forms, mut whats) = (vec![0xaaaa; input.room[0]], vec![0xaaaa; input.room[1]]);
-        let mut out = vec![0xaaaa_aaaa; input.room[2]];
-        let Input { types, function, .. } = input;
-        let answer = calls::ghost_statements(types, function, &mut forms, &mut whats, &mut out);
-        Left { answer: answer.map_err(|refusal| refusal.number()), forms, whats, out }
-    }
-}
-
-impl Left {
-    /// The first difference of the library's from the oracle's.
-    fn difference(&self, oracle: &Left) -> Option<String> {
-        if self.answer != oracle.answer {
-            return Some(format!("answer: library {:?}, oracle {:?}", self.answer, oracle.answer));
-        }
-        word("store forms", &self.forms, &oracle.forms)
-            .or_else(|| word("store whats", &self.whats, &oracle.whats))
-            .or_else(|| word("buffer", &self.out, &oracle.out))
-    }
-}
-
-fn word<W: PartialEq + Debug>(name: &str, library: &[W], oracle: &[W]) -> Option<String> {
-    // Whole slices are the quicker to compare.
-    if library == oracle {
-        return None;
-    }
-    let mut pairs = library.iter().zip(oracle).enumerate();
-    let (at, (first, second)) = pairs.find(|(_, (first, second))| first != second)?;
-    Some(format!("{name}, word {at}: library {first:?}, oracle {second:?}"))
+/// And of a crate: the refusal and its position.
+fn crate_left(case: &Case) -> [Left<Result<(), (u32, usize)>>; 2] {
+    let Case { types, list, .. } = case;
+    let room = Input::of(case).room;
+    let library = Left::by(room, 0x55, |forms, whats, out| {
+        let answer = hirvoksne::crate_statements_into(types, list, forms, whats, out);
+        answer.map_err(|refused| (refused.refusal.number(), refused.position))
+    });
+    let oracle = Left::by(room, 0xaa, |forms, whats, out| {
+        let answer = whole_crate::crate_statements(types, list, forms, whats, out);
+        answer.map(|_| ()).map_err(|(refusal, position)| (refusal.number(), position))
+    });
+    [library, oracle]
 }
 
 impl Tally {
@@ -143,7 +123,7 @@ impl Tally {
 
     /// Compares what both sides leave, then the safe call with it.
     fn compare(&mut self, input: &Input) {
-        let (library, oracle) = (Left::of_library(input), Left::of_oracle(input));
+        let [library, oracle] = function_left(input);
         if let Some(found) = library.difference(&oracle) {
             differ(self.cases, input, &found);
         }
@@ -198,6 +178,53 @@ impl Tally {
     }
 }
 
+impl Tally {
+    /// Compares what both sides leave of a crate, then the safe call with it.
+    fn compare_crate(&mut self, case: &Case) {
+        let [library, oracle] = crate_left(case);
+        if let Some(found) = library.difference(&oracle) {
+            differ_crate(case, &found);
+        }
+        let number = oracle.answer.map_or_else(|(number, _)| number, |()| 0);
+        // The safe call makes its own room, and takes records, so that there are no words after them.
+        if let Some(functions) = records(&case.list).filter(|_| number != 10) {
+            let safe = hirvoksne::crate_statements(&case.types, &functions);
+            let safe = safe.map_err(|refused| (refused.refusal.number(), refused.position));
+            let safe = safe.map(|lists| lists.iter().map(ToString::to_string).collect::<Vec<_>>());
+            let texts = oracle.answer.map(|()| texts_of(&oracle.out, functions.len()));
+            if safe != texts {
+                differ_crate(case, &format!("safe {safe:?}\noracle {texts:?}"));
+            }
+        }
+        self.given += oracle.answer.map_or(0, |()| u64::from(case.list[0]));
+        self.answers[number as usize] += 1;
+        self.cases += 1;
+    }
+}
+
+/// The function records of a crate, unless there is no count, one above 64, or words after the last.
+fn records(words: &[u32]) -> Option<Vec<&[u32]>> {
+    let (&count, words) =
+        words.split_first().filter(|(&count, _)| count <= whole_crate::MAX_FUNCTIONS)?;
+    let (records, spare) = whole_crate::records(count, words);
+    spare.is_empty().then_some(records)
+}
+
+/// The text of each of so many statement records one after another.
+fn texts_of(mut out: &[u32], count: usize) -> Vec<String> {
+    let text = |_| {
+        let (record, behind) = out.split_at(2 + 2 * out[1] as usize);
+        out = behind;
+        GhostStatements::from_record(record).expect("a record").to_string()
+    };
+    (0..count).map(text).collect()
+}
+
+fn differ_crate(case: &Case, found: &str) -> ! {
+    eprintln!("a difference, of the crate\n{}{found}", case.input_lines());
+    exit(1)
+}
+
 fn differ_list(list: &[u32], found: &str) -> ! {
     eprintln!("a difference, of the list {list:?}\n{found}");
     exit(1)
@@ -241,6 +268,21 @@ fn lists(tally: &mut Tally, seed: u64, count: u64) {
         let size = rng.weighted(&[(30, Size::Small), (60, Size::Normal), (10, Size::Large)]);
         let case = random(&mut rng, kind, size, None).expect("any list will do");
         tally.compare_list(&case.list, case.room[0]);
+    }
+}
+
+/// Crates: those round each limit, and so many random and damaged ones.
+fn crates(tally: &mut Tally, seed: u64, count: u64) {
+    let kind = Kind::Call(Call::CrateStatements);
+    let limits = limits().into_iter().map(|(_, case)| case);
+    for case in limits.filter(|case| case.call == Call::CrateStatements) {
+        tally.compare_crate(&case);
+    }
+    let mut rng = Rng::new(seed);
+    for _ in 0..count {
+        let size = rng.weighted(&[(70, Size::Small), (30, Size::Normal)]);
+        let case = random(&mut rng, kind, size, None).expect("any crate will do");
+        tally.compare_crate(&case);
     }
 }
 
