@@ -36,7 +36,7 @@ unfolding
     State.codes State.padded State.encode State.read-each State.opens State.read-node State.read-tree State.pairs State.shaped
     State.decode State.local-ok State.locals-ok
     Place.steps Place.spot-ok Place.used-ok Place.fold-ok Place.unfold-ok Place.same-elem Place.same-place Place.same-spot
-    Walk.opened Walk.opening Walk.enter Walk.step Walk.walk Walk.wide Walk.reached Walk.changed Walk.project Walk.project-at
+    Walk.opened Walk.opening Walk.enter Walk.step Walk.walk Walk.wide Walk.reached Walk.changed Walk.passed Walk.project Walk.project-at
     Walk.carry Walk.carry-at Walk.fitting Walk.projection Walk.cast-at Walk.downcasting Walk.enum-at Walk.subject-at
     Collect.hop Collect.lift Collect.unfolds Collect.collect Collect.folds Collect.folds-at-ret
     Collect.bare Collect.first-clash Collect.returned
@@ -55,9 +55,9 @@ unfolding
     Body.enter-uses Body.use-at Body.pass-stations Body.variants-from Body.variants Body.variant-of Body.without Body.only
     Body.choice Body.open-variant Body.match-targets Body.unopened Body.match-exits Body.exits-of Body.ret-lines Body.body Body.frame
     Record.elem-entry Record.verb-entry Record.point-entry Record.line-entries Record.entries Record.statement-record
-    Record.writable Record.lent Record.gather-one Record.gather Record.recorded
+    Record.writable Record.lent Record.numbers Record.gather-one Record.gather Record.recorded
     Whole.passes Whole.ghost-statements Whole.with-buffer Whole.share Whole.joined Whole.shares Whole.accepted Whole.denied
-    Whole.result Whole.shorter Whole.found Whole.whole
+    Whole.result Whole.shorter Whole.found Whole.whole Whole.with-numbers Whole.found-told Whole.told-of Whole.whole-told
     Crate.records Crate.spare Crate.stopped-at Crate.calls Crate.from-first Crate.crate-statements
     Calls.typed Calls.taken Calls.elems-of Calls.spot-of Calls.placed Calls.recorded-verb Calls.recorded-as
     Calls.call-projection Calls.call-downcast Calls.statement-ok Calls.statement-at Calls.call-carry Calls.call-join
@@ -70,6 +70,6 @@ unfolding
     Replay.play Replay.replay
     Ghosts.close Ghosts.digit Ghosts.scan-byte Ghosts.scan Ghosts.words-of Ghosts.types-length
     Ghosts.function-words Ghosts.analysed Ghosts.decimal Ghosts.elem-text Ghosts.place-text Ghosts.point-text Ghosts.verb-text
-    Ghosts.line-text Ghosts.lines-text Ghosts.answer-text Ghosts.printed Ghosts.ghosts
+    Ghosts.told-text Ghosts.line-text Ghosts.lines-text Ghosts.answer-text Ghosts.printed Ghosts.ghosts
     Build.state-of
 computed = tt

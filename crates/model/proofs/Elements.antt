@@ -39,7 +39,7 @@ any-values = refl
 abbrev timer : List ℕ
 timer = function 3 (seen (root 1 ∷ deref ∷ field 0 ∷ index ∷ [])) (arm 0 ∷ target 1 ∷ []) (root 1 ∷ deref ∷ field 0 ∷ index ∷ used ∷ return ∷ [])
 
-timer-printed : printed timer ≡ bytes "at 4 unfold _1.*\nat 17 fold _1.*\n"
+timer-printed : printed timer ≡ bytes "at 4 unfold _1.* 0\nat 17 fold _1.* -\n"
 unfolding computed
 timer-printed = refl
 
@@ -51,7 +51,7 @@ timer-replayed = refl
 
 -- folded between note and switch: the walk at the switch would open it, and the arm finds it folded
 dropped : printed (function 2 (seen (root 1 ∷ field 0 ∷ index ∷ []) ++ (root 1 ∷ used ∷ [])) (arm 0 ∷ target 1 ∷ []) (root 1 ∷ field 0 ∷ index ∷ used ∷ return ∷ []))
-    ≡ bytes "at 3 unfold _1\nat 7 fold _1\nat 16 unfold _1\n"
+    ≡ bytes "at 3 unfold _1 0\nat 7 fold _1\nat 16 unfold _1 0\n"
 unfolding computed
 dropped = refl
 

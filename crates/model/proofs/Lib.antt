@@ -15,6 +15,8 @@ mod Refusals
 mod Limits
 -- the calls on states
 mod States
+-- the numbers beside a statement record
+mod Numbered
 -- lists of MIR statements
 mod Assigns
 -- crates in one call

@@ -22,6 +22,6 @@ function = function-of (0 ∷ 3 ∷ 0 ∷ []) (
     ∷ (root 1 ∷ downcast 0 ∷ field 0 ∷ used ∷ return ∷ [])
     ∷ [])
 
-matched : answer-text (entry-point function) (found types function 512 512 64) ≡ bytes "at 13 fold _1\nat 18 fold _1\nat 22 unfold _1.as0\n"
+matched : answer-text (entry-point function) (found types function 512 512 64) ≡ bytes "at 13 fold _1 -\nat 18 fold _1 -\nat 22 unfold _1.as0 0\n"
 unfolding computed
 matched = refl

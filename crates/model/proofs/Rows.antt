@@ -1,16 +1,17 @@
 -- Rows as document 01's table has them: a type, an input, a result. Trees are written by their shapes, and the row's type makes
 -- them trees; `computed-row` is what the definitions give, `stated-row` what the row says.
 use mathlib.Core.Bool.{Bool, true, false}
-use mathlib.Core.List.{List, [], _∷_}
+use mathlib.Core.List.{List, [], _∷_, map}
 use mathlib.Core.Option.{Option, none as accepted, some}
 use Prim.Native.Nat.{ℕ}
 use Rattle.model.specs.Answer.{Answer, refused, done, _>>=_}
 use Rattle.model.specs.Types.{kids}
 use Rattle.model.specs.Tree.{Tree, leaf, node, Forest, nil, more, join, flags, Flags}
 use Rattle.model.specs.Source.{first, second, modified}
-use Rattle.model.specs.Place.{Place, Verb, Fold, Unfold, At}
+use Rattle.model.specs.Place.{Place, Verb, Fold, Unfold, dash, At}
 use Rattle.model.specs.Walk.{project-at}
 use Rattle.model.specs.Collect.{collects, folds-at-ret, first-clashes}
+use Rattle.model.specs.Record.{forget}
 
 -- SHAPES
 
@@ -82,9 +83,9 @@ no = false
 abbrev pub yes : Bool
 yes = true
 
--- one statement, on _1 and elements
+-- one statement, on _1 and elements; what is told beside it (document 02, F-4) isn't in the table
 abbrev pub says : Verb → Place → Stated
-says w p = records (record { number = 1; what = record { verb = w; place = p } } ∷ [])
+says w p = records (record { number = 1; what = record { verb = w; place = p; told = dash } } ∷ [])
 
 abbrev pub fold-1 : Place → Stated
 fold-1 = says Fold
@@ -96,7 +97,7 @@ unfold-1 = says Unfold
 
 abbrev pub recorded : Answer (List At) → Computed
 recorded (refused r) = refuses r
-recorded (done as′) = records as′
+recorded (done as′) = records (map forget as′)
 
 module _ (Γ : List ℕ) where
   -- the tree of a shape, at a type

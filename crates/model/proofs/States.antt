@@ -32,12 +32,12 @@ abbrev spread : State
 spread = state-of 6 (0 ∷ 0 ∷ 0 ∷ 2 ∷ []) []
 
 -- _1.*.0 is used: unfold _1.*, the place's first element
-projection : call-projection types locals folded (0 ∷ 1 ∷ 2 ∷ []) (1 ∷ 0 ∷ 0 ∷ []) ≡ done (unfold-at 1, referred)
+projection : call-projection types locals folded (0 ∷ 1 ∷ 2 ∷ []) (1 ∷ 0 ∷ 0 ∷ []) ≡ done (unfold-at 1, 0, referred)
 unfolding computed
 projection = refl
 
 -- _3 is used
-projection-folds : call-projection types locals spread (0 ∷ []) (3 ∷ []) ≡ done (fold, folded)
+projection-folds : call-projection types locals spread (0 ∷ []) (3 ∷ []) ≡ done (fold, 0, folded)
 unfolding computed
 projection-folds = refl
 

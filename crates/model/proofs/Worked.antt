@@ -10,7 +10,7 @@ use Rattle.model.proofs.Build.{bytes}
 use Rattle.model.proofs.Computed.{computed}
 
 printed : ghosts (bytes "2 2 0 6 0 2 0 0\n2 1 4 12 0 1 0 7 10 11 0 1 2 3 0 2 5 8 9 10 10 0 5 10 10 11 1 0 0 0 0 1 2 1 0 3 3 0\n")
-    ≡ bytes "at 2 unfold _1\nat 8 fold _1\nat 9 unfold _1\n"
+    ≡ bytes "at 2 unfold _1 0\nat 8 fold _1\nat 9 unfold _1 -\n"
 unfolding computed
 printed = refl
 

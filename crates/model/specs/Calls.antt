@@ -10,8 +10,8 @@ use Rattle.model.specs.Answer.{Answer, refused, done, _>>=_, require}
 use Rattle.model.specs.Types.{types-ok}
 use Rattle.model.specs.Tree.{Forest, joins, flagss}
 use Rattle.model.specs.State.{State, encode, decode, locals-ok}
-use Rattle.model.specs.Place.{Place, Spot, Verb, Fold, Unfold, At, used-ok, fold-ok, unfold-ok}
-use Rattle.model.specs.Walk.{projection, downcasting, carry-at, fitting}
+use Rattle.model.specs.Place.{Place, Spot, Verb, Fold, Unfold, dash, At, used-ok, fold-ok, unfold-ok}
+use Rattle.model.specs.Walk.{pick, passed, projection, downcasting, carry-at, fitting}
 use Rattle.model.specs.Collect.{collects, unfoldss, folds-at-ret}
 use Rattle.model.specs.Block.{elem-of}
 use Rattle.model.specs.Frame.{mark}
@@ -67,9 +67,10 @@ recorded-as [] = nothing
 recorded-as (a ∷ as′) = recorded-verb (a .what .verb) (a .what .place)
 
 module _ (Γ locals : List ℕ) where
-  unfoldable pub call-projection : State → List ℕ → List ℕ → Answer (Recorded × State)
+  -- what is recorded, how many elements the walk had passed before the step that first changed a tree (F-4), and the state
+  unfoldable pub call-projection : State → List ℕ → List ℕ → Answer (Recorded × ℕ × State)
   call-projection s ops args = typed Γ locals λ _. taken Γ locals s λ E. placed (used-ok (length locals)) ops args λ q.
-      projection Γ q E >>= λ r. done (recorded-as (r .1), encode Γ (r .0))
+      projection Γ q E >>= λ r. done (recorded-as (r .1), passed Γ (q .place) (pick (q .local) E), encode Γ (r .0))
 
   unfoldable pub call-downcast : State → List ℕ → List ℕ → ℕ → Answer State
   call-downcast s ops args v = typed Γ locals λ _. taken Γ locals s λ E. placed (used-ok (length locals)) ops args λ q.
@@ -80,7 +81,7 @@ module _ (Γ locals : List ℕ) where
   statement-ok Unfold q = unfold-ok (length locals) q
 
   unfoldable pub statement-at : Verb → Spot → At
-  statement-at w q = record { number = q .local; what = record { verb = w; place = q .place } }
+  statement-at w q = record { number = q .local; what = record { verb = w; place = q .place; told = dash } }
 
   -- carrying out one fold or unfold
   unfoldable pub call-carry : Verb → State → List ℕ → List ℕ → Answer State

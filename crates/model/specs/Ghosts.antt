@@ -8,7 +8,7 @@ use lib.Dec.{eqb, ltb, leb}
 use Rattle.model.specs.Words.{word}
 use Rattle.model.specs.Answer.{Answer, refused, done, require}
 use Rattle.model.specs.Tree.{Forest}
-use Rattle.model.specs.Place.{Elem, deref, field, downcast, index, Place, Verb, Fold, Unfold, At}
+use Rattle.model.specs.Place.{Elem, deref, field, downcast, index, Place, Verb, Fold, Unfold, dash, At}
 use Rattle.model.specs.Function.{function-length}
 use Rattle.model.specs.Block.{entry-point}
 use Rattle.model.specs.Frame.{Line}
@@ -113,8 +113,16 @@ unfoldable pub verb-text : Verb → List ℕ
 verb-text Fold = 32 ∷ 102 ∷ 111 ∷ 108 ∷ 100 ∷ 32 ∷ 95 ∷ []
 verb-text Unfold = 32 ∷ 117 ∷ 110 ∷ 102 ∷ 111 ∷ 108 ∷ 100 ∷ 32 ∷ 95 ∷ []
 
+-- the last word (document 02, F-4): ` -` of a statement that is collected; of one from a use the number behind an unfold, nothing behind
+-- a fold
+unfoldable pub told-text : Verb → ℕ → List ℕ
+told-text Fold n = cond (eqb n dash) (32 ∷ 45 ∷ []) []
+told-text Unfold n = cond (eqb n dash) (32 ∷ 45 ∷ []) (32 ∷ number n)
+
 unfoldable pub line-text : ℕ → Line At → List ℕ
-line-text entry l = point-text entry (l .point) ++ (verb-text (l .stmt .what .verb) ++ (number (l .stmt .number) ++ (place-text (l .stmt .what .place) ++ (10 ∷ []))))
+line-text entry l =
+    let c = l .stmt .what in
+    point-text entry (l .point) ++ (verb-text (c .verb) ++ (number (l .stmt .number) ++ (place-text (c .place) ++ (told-text (c .verb) (c .told) ++ (10 ∷ [])))))
 
 unfoldable pub lines-text : ℕ → List (Line At) → List ℕ
 lines-text entry [] = []

@@ -35,8 +35,9 @@ pub mod Crate
 pub mod Calls
 -- MIR statements as they are, and the items that they give
 pub mod Assign
--- the replay
+-- the replay; what the numbers beside a statement record say
 pub mod Replay
+pub mod Told
 -- the program
 pub mod Ghosts
 -- what the calls promise beside these equations

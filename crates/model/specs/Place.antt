@@ -29,14 +29,19 @@ pub data Verb : Type 0 where
 pub record Statement : Type 0 where
   pub verb : Verb
   pub place : Place
+  pub told : ℕ  -- what a reader is told beside it (document 02, F-4): of an unfold from a use where the opening began, of a fold from a use 0
+
+-- of a statement that is collected: `-`
+abbrev pub dash : ℕ
+dash = 255
 
 -- the whole tree
 abbrev pub here : Verb → Statement
-here w = record { verb = w; place = [] }
+here w = record { verb = w; place = []; told = dash }
 
 -- the same statement, seen from one element further up
 abbrev pub push : Elem → Statement → Statement
-push e c = record { verb = c .verb; place = e ∷ c .place }
+push e c = record { verb = c .verb; place = e ∷ c .place; told = c .told }
 
 abbrev pub under : Place → Statement → Statement
 under [] c = c

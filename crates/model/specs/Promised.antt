@@ -7,19 +7,20 @@ use mathlib.Core.Bool.{Bool, true, false}
 use mathlib.Core.List.{List, [], _∷_, map}
 use mathlib.Core.Option.{some}
 use Prim.Native.Nat.{ℕ, zero, suc, _≤_}
-use lib.ListN.{take}
+use lib.ListN.{length, take}
 use Rattle.model.specs.Answer.{done}
 use Rattle.model.specs.Types.{types-ok}
 use Rattle.model.specs.Tree.{Forest, joins, leaves}
 use Rattle.model.specs.Source.{firsts, seconds, modifieds}
 use Rattle.model.specs.State.{State, decode, locals-ok}
-use Rattle.model.specs.Place.{Fold, Unfold, At}
-use Rattle.model.specs.Walk.{carries-at}
+use Rattle.model.specs.Place.{Spot, Fold, Unfold, At, walked}
+use Rattle.model.specs.Walk.{pick, carries-at}
 use Rattle.model.specs.Collect.{bares, first-clashes, returned-at}
 use Rattle.model.specs.Frame.{Line}
 use Rattle.model.specs.Rounds.{elem}
 use Rattle.model.specs.Record.{recorded}
-use Rattle.model.specs.Calls.{Recorded, nothing, fold, unfold-at, call-projection, call-carry, call-join}
+use Rattle.model.specs.Calls.{spot-of, Recorded, nothing, fold, unfold-at, call-projection, call-carry, call-join}
+use Rattle.model.specs.Told.{Began}
 use Rattle.model.specs.Ghosts.{lines-text, refusal-text}
 
 -- DEMAND 1: "any words at all handed in come out as a statement record or as one of ten numbered refusals"
@@ -85,15 +86,18 @@ unfoldable pub statements-in : List ℕ → List At
 statements-in out = map (λ l. l .stmt) (recorded 0 out)
 
 module _ (Γ locals : List ℕ) where
-  -- A PLACE USED, in the state s: what is recorded, and the state u after it
-  pub record Use-Promise (s : State) (ops args : List ℕ) (what : Recorded) (u : State) : Type 0 where
-    -- the same call once more records nothing and changes nothing
-    pub again : call-projection Γ locals u ops args ≡ done (nothing, u)
+  -- A PLACE USED, in the state s: what is recorded, the number told beside it, and the state u after it
+  pub record Use-Promise (s : State) (ops args : List ℕ) (what : Recorded) (told : ℕ) (u : State) : Type 0 where
+    -- the same call once more records nothing and changes nothing: it passes all that is walked
+    pub again : (q : Spot) → spot-of ops args ≡ some q → call-projection Γ locals u ops args ≡ done (nothing, length (walked (q .place)), u)
     -- where nothing is recorded nothing has changed
     pub unchanged : what ≡ nothing → u ≡ s
     -- what is recorded, carried out by `fold` or `unfold` on the state before, gives the state after
     pub folds : what ≡ fold → call-carry Γ locals Fold s ops args ≡ done u
     pub unfolds : (n : ℕ) → what ≡ unfold-at n → call-carry Γ locals Unfold s (take (suc n) ops) (take (suc n) args) ≡ done u
+    -- the number of an unfold says where the opening began (document 02, F-4)
+    pub began : (q : Spot) (E : Forest) (n : ℕ) → spot-of ops args ≡ some q → decode Γ locals s ≡ some E → what ≡ unfold-at n
+        → Began Γ (q .place) (pick (q .local) E) told
 
   -- A JOIN of s and e: the flag, and the state u that is given
   pub record Join-Promise (s e : State) (flag : Bool) (u : State) : Type 0 where

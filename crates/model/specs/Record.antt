@@ -7,7 +7,7 @@ use lib.ListN.{length, take, drop, replicate}
 use lib.Dec.{eqb, ltb, leb}
 use Rattle.model.specs.Words.{word}
 use Rattle.model.specs.State.{pairs}
-use Rattle.model.specs.Place.{Elem, deref, field, downcast, index, Place, Verb, Fold, Unfold, At}
+use Rattle.model.specs.Place.{Elem, deref, field, downcast, index, Place, Verb, Fold, Unfold, dash, At}
 use Rattle.model.specs.Block.{elem-of}
 use Rattle.model.specs.Frame.{Line}
 
@@ -55,7 +55,18 @@ writable n es = leb (record-length (length es)) n && ltb (length es) (2 ^ 32)
 unfoldable pub lent : ℕ → List ℕ → List ℕ
 lent n l = l ++ replicate (n - length l) 0
 
+-- THE NUMBERS BESIDE IT (document 02, F-4): "one entry a statement"
+unfoldable pub numbers : List (Line At) → List ℕ
+numbers ls = map (λ l. l .stmt .what .told) ls
+
 -- READ BACK
+
+-- what a record keeps of a statement: all but what is told beside it
+abbrev pub forget : At → At
+forget a = record { number = a .number; what = record { verb = a .what .verb; place = a .what .place; told = dash } }
+
+abbrev pub forget-line : Line At → Line At
+forget-line l = record { point = l .point; stmt = forget (l .stmt) }
 
 -- what is gathered from the last entry on: the elements, the local and the verb of a statement, and the lines behind it
 pub record Gathered : Type 0 where
@@ -77,7 +88,7 @@ gather-one entry e g =
       verb = Fold;
       lines = record {
         point = cond (eqb (e .0) 14) entry (e .1);
-        stmt = record { number = g .local; what = record { verb = g .verb; place = g .place } };
+        stmt = record { number = g .local; what = record { verb = g .verb; place = g .place; told = dash } };
       } ∷ g .lines;
     }))))
 

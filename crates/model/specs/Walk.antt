@@ -109,13 +109,21 @@ module _ (Γ : List ℕ) where
   changed (downcast v ∷ p) s = not (unfolded s) || changed p (next (downcast v) s)
   changed (index ∷ p) s = false
 
+  -- "how many elements it had passed before the step that first changed a tree, and the walked length where none did" (F-4)
+  unfoldable pub passed : Place → Tree → ℕ
+  passed [] s = 0
+  passed (deref ∷ p) s = cond (unfolded s) (suc (passed p (next deref s))) 0
+  passed (field i ∷ p) s = cond (unfolded s) (suc (passed p (next (field i) s))) 0
+  passed (downcast v ∷ p) s = cond (unfolded s) (suc (passed p (next (downcast v) s))) 0
+  passed (index ∷ p) s = 0
+
   -- THE PROJECTION (`ProjResult`): "if the walk changed a tree the answer is Unfold, recorded for the walked place without its
   -- last element; else Fold exactly if the node reached was unfolded; else nothing". The tree after, and the statement
   unfoldable pub project : Place → Tree → Answer (Tree × List Statement)
   project p s = walk Γ done p s >>= λ u. cond (changed p s)
-      (done (u, record { verb = Unfold; place = base p } ∷ []))
+      (done (u, record { verb = Unfold; place = base p; told = passed p s } ∷ []))
       (cond (unfolded (reached p s))
-      (walk Γ folding p s >>= λ w. done (w, record { verb = Fold; place = p } ∷ []))
+      (walk Γ folding p s >>= λ w. done (w, record { verb = Fold; place = p; told = 0 } ∷ []))
       (done (u, [])))
 
   -- of the local number i of a state

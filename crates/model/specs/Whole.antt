@@ -16,7 +16,7 @@ use Rattle.model.specs.Function.{nblocks, local-types, function-ok}
 use Rattle.model.specs.Block.{places-ok, entry-uses, entry-point, is-join-point, join-points}
 use Rattle.model.specs.Passes.{Found, analyse}
 use Rattle.model.specs.Body.{enter-uses, frame}
-use Rattle.model.specs.Record.{entries, statement-record, writable, lent}
+use Rattle.model.specs.Record.{entries, statement-record, writable, lent, numbers}
 
 -- both passes, of records that pass: from the state that the entry's uses leave
 unfoldable pub passes : List ℕ → List ℕ → Answer (Found Forest At)
@@ -78,3 +78,25 @@ module _ (Γ fn : List ℕ) (nforms nwhats nout : ℕ) where
 
   unfoldable pub whole : Result
   whole = result found
+
+-- WITH THE NUMBERS BESIDE THE STATEMENT RECORD (document 02, F-4): what the call for users leaves
+pub record Told : Type 0 where
+  pub result : Result
+  pub told : List ℕ
+
+-- ntold: the length of the array for the numbers
+module _ (Γ fn : List ℕ) (nforms nwhats nout ntold : ℕ) where
+  -- "10 also when this array is too short, found last"
+  unfoldable pub with-numbers : Found Forest At → Answer (Found Forest At)
+  with-numbers f = require (leb (length (f .lines)) ntold) 10 λ _. done f
+
+  unfoldable pub found-told : Answer (Found Forest At)
+  found-told = found Γ fn nforms nwhats nout >>= with-numbers
+
+  -- "all zero on a refusal"
+  unfoldable pub told-of : Answer (Found Forest At) → List ℕ
+  told-of (refused r) = replicate ntold 0
+  told-of (done f) = lent ntold (numbers (f .lines))
+
+  unfoldable pub whole-told : Told
+  whole-told = record { result = result Γ fn nforms nwhats nout found-told; told = told-of found-told }
