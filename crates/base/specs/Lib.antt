@@ -12,6 +12,8 @@ pub mod Only
 pub mod Each
 -- equal words in a row
 pub mod Equal
+-- what is told beside a statement doesn't matter
+pub mod Forgotten
 -- tests, sums and counts over the numbers below n
 pub mod Below
 -- the numbers that are collected because they pass

@@ -2,35 +2,49 @@
 -- exactly at the first clash of the two trees. n: the length of the lent buffer.
 use mathlib.Core.Path.{_≡_, refl, _∙_, ap}
 use mathlib.Core.Logic.{_↔_}
-use mathlib.Core.List.{List, map}
+use mathlib.Core.List.{List, [], _∷_, map}
 use Prim.Native.Nat.{ℕ}
 use native.Mathlib.Omega.{arith}
 use lib.ListN.{length}
 use lib.Dec.{ltb}
-use Rattle.model.specs.Answer.{refused}
+use Rattle.model.specs.Answer.{refused, done}
+use Rattle.model.specs.Tree.{Forest, leaves}
 use Rattle.model.specs.State.{State}
 use Rattle.model.specs.Place.{At}
+use Rattle.model.specs.Walk.{carries-at}
 use Rattle.model.specs.Collect.{collects, unfoldss, folds-at-ret}
 use Rattle.model.specs.Frame.{mark}
 use Rattle.model.specs.Rounds.{elem}
-use Rattle.model.specs.Record.{entries, statement-record, writable, lent}
+use Rattle.model.specs.Record.{entries, statement-record, writable, lent, forget, forget-line}
 use Rattle.model.specs.Calls.{typed, taken, written, call-collect, call-unfolds, call-folds}
 use Rattle.model.specs.Promised.{One-of, statements-in, Collect-Promise, Unfolds-Promise, Folds-Promise, Clashes, Bare}
 use Rattle.base.specs.Tests.{split, clash}
 use Rattle.base.specs.Answer.{Good, good-done, good-bind, good-self, good-require, split-answer}
+use Rattle.base.specs.Forgotten.{carries-forget}
 use Rattle.base.specs.Only.{one-apart, only-at}
 use Rattle.laws.specs.Sound.{types-sound}
 use Rattle.laws.specs.Carried.{collects-lead, unfoldss-lead}
 use Rattle.laws.specs.Clash.{collects-refused, unfoldss-refused}
 use Rattle.laws.specs.Refusals.{collecting, collects-refusals}
 use Rattle.laws.specs.Returned.{folds-at-ret-carry}
-use Rattle.records.specs.Recorded.{recorded-lent, mark-stmts}
+use Rattle.records.specs.Recorded.{recorded-lent}
 use Rattle.calls.specs.Tested.{good-typed, good-taken, typed-past, taken-past, decode-valid}
 
--- what is written is read back
-read-back : (n : ℕ) (as′ : List At) → statements-in (lent n (statement-record 0 (mark 0 as′))) ≡ as′
+-- what a record keeps of statements that all stand at one point
+forget-marked : (i : ℕ) (ts : List At) → map (λ l. l .stmt) (map forget-line (mark i ts)) ≡ map forget ts
+unfolding mark
+forget-marked i [] = refl
+forget-marked i (t ∷ ts) = cc (forget-marked i ts)
+
+-- what is written is read back, but for what is told beside it
+read-back : (n : ℕ) (as′ : List At) → statements-in (lent n (statement-record 0 (mark 0 as′))) ≡ map forget as′
 unfolding statements-in
-read-back n as′ = ap (map (λ l. l .stmt)) (recorded-lent 0 n (mark 0 as′)) ∙ mark-stmts 0 as′
+read-back n as′ = ap (map (λ l. l .stmt)) (recorded-lent 0 n (mark 0 as′)) ∙ forget-marked 0 as′
+
+-- so it leads where the statements lead
+leading : (Γ : List ℕ) (n : ℕ) (as′ : List At) (E : Forest) {D : Forest} → carries-at Γ as′ E ≡ done D
+    → carries-at Γ (statements-in (lent n (statement-record 0 (mark 0 as′)))) E ≡ done D
+leading Γ n as′ E e = ap (λ (ts : List At). carries-at Γ ts E) (read-back n as′) ∙ carries-forget Γ as′ E ∙ e
 
 module _ (Γ locals : List ℕ) (n : ℕ) where
   -- what holds of the statements, and so of the buffer that they are written to
@@ -53,7 +67,7 @@ module _ (Γ locals : List ℕ) (n : ℕ) where
           to = E;
           from-is = sd;
           to-is = ed;
-          leads = rw (read-back n a) (collects-lead Γ (types-sound Γ (p .types)) (decode-valid Γ locals s sd .fits) (decode-valid Γ locals e ed .fits) c);
+          leads = leading Γ n a S (collects-lead Γ (types-sound Γ (p .types)) (decode-valid Γ locals s sd .fits) (decode-valid Γ locals e ed .fits) c);
         })))))
 
   -- from all folded
@@ -68,7 +82,7 @@ module _ (Γ locals : List ℕ) (n : ℕ) where
         good-bind (good-self (unfoldss Γ S)) (λ a c. written-good Opens a (record {
           to = S;
           to-is = sd;
-          leads = rw (read-back n a) (unfoldss-lead Γ (types-sound Γ (p .types)) (decode-valid Γ locals s sd .fits) c);
+          leads = leading Γ n a (leaves locals) (unfoldss-lead Γ (types-sound Γ (p .types)) (decode-valid Γ locals s sd .fits) c);
         }))))
 
     -- at return
@@ -82,7 +96,7 @@ module _ (Γ locals : List ℕ) (n : ℕ) where
         good-taken (Settles a) Γ locals s _ (λ S sd. written-good (Settles a) (folds-at-ret Γ a S) (record {
           from = S;
           from-is = sd;
-          leads = rw (read-back n (folds-at-ret Γ a S)) (folds-at-ret-carry Γ (types-sound Γ (p .types)) a (decode-valid Γ locals s sd .fits));
+          leads = leading Γ n (folds-at-ret Γ a S) S (folds-at-ret-carry Γ (types-sound Γ (p .types)) a (decode-valid Γ locals s sd .fits));
         }))))
 
   -- THE REFUSALS

@@ -10,16 +10,19 @@ use borrow.Author.Tests.{le-leb}
 use Rattle.model.specs.Answer.{done, _>>=_}
 use Rattle.model.specs.Tree.{Tree, Forest, nil, more, sizes, unfolded}
 use Rattle.model.specs.State.{State, most, encode, decode}
-use Rattle.model.specs.Place.{Place, Spot, Verb, Fold, Unfold, At, base, used-ok}
-use Rattle.model.specs.Walk.{carries-at, nth, walk, pick, changed, reached, project, project-at, carry-at, fitting, projection}
+use Rattle.model.specs.Place.{Place, Spot, Verb, Fold, Unfold, At, walked, base, used-ok}
+use Rattle.model.specs.Walk.{carries-at, nth, walk, pick, changed, reached, passed, project, project-at, carry-at, fitting, projection}
+use Rattle.model.specs.Record.{forget}
 use Rattle.model.specs.Calls.{typed, taken, placed, spot-of, Recorded, nothing, recorded-verb, recorded-as, statement-ok, statement-at, call-projection, call-carry}
 use Rattle.model.specs.Replay.{Quiet}
 use Rattle.model.specs.Promised.{Use-Promise}
 use Rattle.base.specs.Tests.{split, clash}
 use Rattle.base.specs.Answer.{Good, good-done, good-bind, good-self, good-at, then-done}
+use Rattle.base.specs.Forgotten.{carries-forget}
 use Rattle.laws.specs.Places.{used-limits, used-fold, used-unfold, base-first}
 use Rattle.laws.specs.Projection.{projection-carry, projection-quiet}
 use Rattle.laws.specs.Recorded.{numbered, recording, projection-recording}
+use Rattle.laws.specs.Passed.{began, passed-all}
 use Rattle.laws.specs.Valid.{Valid, projection-valid}
 use Rattle.records.specs.Encode.{encode-decode}
 use Rattle.records.specs.Spots.{spot-front}
@@ -71,17 +74,27 @@ module _ (Γ locals : List ℕ) (p : Passing Γ locals) (s : State) (ops args : 
   are : r .1 ≡ map (numbered (q .local)) (recording Γ (q .place) (pick (q .local) E))
   are = good-at (projection-recording Γ q E) e
 
+  -- and what a record keeps of them leads there too
+  kept : map forget (r .1) ≡ map forget (map (numbered (q .local)) (recording Γ (q .place) (pick (q .local) E)))
+  kept = ap (map forget) are
+
+  led-kept : carries-at Γ (map forget (r .1)) E ≡ done (r .0)
+  led-kept = carries-forget Γ (r .1) E ∙ led
+
   -- the same use once more
-  used-again : call-projection Γ locals (encode Γ (r .0)) ops args ≡ done (nothing, encode Γ (r .0))
+  used-again : call-projection Γ locals (encode Γ (r .0)) ops args ≡ done (nothing, length (walked (q .place)), encode Γ (r .0))
   unfolding call-projection typed taken placed recorded-as
-  used-again = cc (
-    p .types,
-    p .typed,
-    valid-decode Γ locals (p .types) after,
-    qd,
-    ok,
-    projection-rests Γ q (r .0) (good-at (projection-quiet Γ q E (used-limits (length locals) q ok .plain)) e) (after .small),
-  )
+  used-again =
+      let Q = good-at (projection-quiet Γ q E (used-limits (length locals) q ok .plain)) e in
+      cc (
+        p .types,
+        p .typed,
+        valid-decode Γ locals (p .types) after,
+        qd,
+        ok,
+        projection-rests Γ q (r .0) Q (after .small),
+        passed-all Γ (q .place) (pick (q .local) (r .0)) (Q .unchanged),
+      )
 
   -- a statement of the place's first elements, carried out by the call
   carried : (w : Verb) (os as′ : List ℕ) (t : Spot) → spot-of os as′ ≡ some t → statement-ok Γ locals w t ≡ true
@@ -90,17 +103,17 @@ module _ (Γ locals : List ℕ) (p : Passing Γ locals) (s : State) (ops args : 
   carried w os as′ t td k c = cc (p .types, p .typed, sd, td, k, c, le-leb (sizes (r .0)) most (after .small))
 
   -- what is recorded
-  pub used : Use-Promise Γ locals s ops args (recorded-as (r .1)) (encode Γ (r .0))
+  pub used : Use-Promise Γ locals s ops args (recorded-as (r .1)) (passed Γ (q .place) (pick (q .local) E)) (encode Γ (r .0))
   unfolding recorded-as recorded-verb statement-ok statement-at
   used =
       let x = changed Γ (q .place) (pick (q .local) E) in
       let y = unfolded (reached Γ (q .place) (pick (q .local) E)) in
       record {
-        again = used-again;
+        again = λ t d. let z : q ≡ t = cc in rw (← z) used-again;
         unchanged = λ h. split x (λ a. clash (cc (are))) (λ a. split y (λ b. clash (cc (are)))
             (λ b. let d : E ≡ r .0 = cc (are, led) in rw (← d) (encode-decode Γ locals s E sd)));
         folds = λ h. split x (λ a. clash (cc (are))) (λ a. split y
-            (λ b. carried Fold ops args q qd (used-fold (length locals) q ok) (carry-one Γ (statement-at Γ locals Fold q) E (r .0) (cc (are, led))))
+            (λ b. carried Fold ops args q qd (used-fold (length locals) q ok) (carry-one Γ (statement-at Γ locals Fold q) E (r .0) (cc (kept, led-kept))))
             (λ b. clash (cc (are))));
         unfolds = λ n h. split x
             (λ a.
@@ -108,14 +121,17 @@ module _ (Γ locals : List ℕ) (p : Passing Γ locals) (s : State) (ops args : 
             let l : n ≡ length (base (q .place)) = cc (are) in
             carried Unfold (take (suc n) ops) (take (suc n) args) t
             (rw l (spot-front ops args q (length (base (q .place))) qd ∙ ap (λ (z : Place). some (record { local = q .local; place = z })) (base-first (q .place))))
-            (used-unfold (length locals) q ok) (carry-one Γ (statement-at Γ locals Unfold t) E (r .0) (cc (are, led))))
+            (used-unfold (length locals) q ok) (carry-one Γ (statement-at Γ locals Unfold t) E (r .0) (cc (kept, led-kept))))
+            (λ a. split y (λ b. clash (cc (are))) (λ b. clash (cc (are))));
+        began = λ t D n d f h. split x
+            (λ a. let z : q ≡ t = cc in let u : E ≡ D = cc in rw (← z, ← u) (began Γ (q .place) (pick (q .local) E) a))
             (λ a. split y (λ b. clash (cc (are))) (λ b. clash (cc (are))));
       }
 
 module _ (Γ locals : List ℕ) (s : State) (ops args : List ℕ) where
-  -- of what is recorded, and a state
-  abbrev Promise : Recorded × State → Type 0
-  Promise r = Use-Promise Γ locals s ops args (r .0) (r .1)
+  -- of what is recorded, a number and a state
+  abbrev Promise : Recorded × ℕ × State → Type 0
+  Promise r = Use-Promise Γ locals s ops args (r .0) (r .1) (r .2)
 
   -- what the call `projection` promises of what it records and of the state that it gives
   pub call-used : Good Promise (call-projection Γ locals s ops args)

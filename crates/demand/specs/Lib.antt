@@ -9,6 +9,10 @@ pub mod Whole
 -- demand 1: the numbers with which the passes refuse, 5, 6, 8 and 9 (passes-refuse), and the whole-function call (whole-refuses); what `ghosts`
 -- prints (ghosts-answered)
 pub mod Refused
+-- with the numbers beside the statement record: what they say (numbers-right), of model's statement; demands 1 and 3 (told-refuses, told-demand)
+pub mod Told
+-- each number is at most 127, or the dash: found-small, numbers-small
+pub mod Small
 -- of a whole crate in one call
 pub mod Crates
 -- 5. DEMAND 3: demand-3, of model's statement

@@ -158,7 +158,7 @@ module _ (Γ fn : List ℕ) where
     found-refuses = buffered refl (tests-refuse (shorter Γ fn nforms nwhats nout))
 
     -- what is given of it
-    result-refuses : {ns : List ℕ} {a : Answer (Found Forest At)} → Only ns a → Only ns ((result Γ fn nforms nwhats nout a) .answer)
+    pub result-refuses : {ns : List ℕ} {a : Answer (Found Forest At)} → Only ns a → Only ns ((result Γ fn nforms nwhats nout a) .answer)
     unfolding result denied accepted
     result-refuses (only-refused e) = only-refused e
     result-refuses only-done = only-done

@@ -19,6 +19,8 @@ use Rattle.laws.specs.Measure.{measure-bound, measure-falls}
 use Rattle.laws.specs.Places.{used-limits}
 use Rattle.laws.specs.Sound.{types-sound}
 use Rattle.laws.specs.Projection.{projection-carry, projection-quiet, downcasting-cast}
+use Rattle.laws.specs.Passed.{projection-tells}
+use Rattle.laws.specs.Lifted.{collects-dashed}
 use Rattle.laws.specs.Depth.{joins-depths}
 use Rattle.laws.specs.Valid.{Valid, leaves-valid, projection-valid, downcasting-valid}
 use Rattle.laws.specs.Carried.{goto-above}
@@ -92,9 +94,11 @@ module _ (Γ fn : List ℕ) where
             small = v .small;
             carried = good-at (projection-carry Γ q E (n .plain)) e;
             quiet = good-at (projection-quiet Γ q E (n .plain)) e;
+            tells = good-at (projection-tells Γ q E) e;
           };
       opens = λ q v E u g e.
           let w = good-at (downcasting-valid q v (good-valid g) ((used-limits (nlocals fn) q u) .near)) e in
           record { ok = valid-shaped w; small = w .small; cast = (good-at (downcasting-cast Γ q v E) e) .0 };
+      dashed = λ E D ts e. good-at (collects-dashed Γ E D) e;
       returns = λ {E} o. (returned-at Γ (nargs fn) E, folds-at-ret-carry Γ (types-sound Γ t) (nargs fn) (o .fits));
     }

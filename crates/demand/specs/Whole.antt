@@ -20,11 +20,13 @@ use Rattle.model.specs.Frame.{Line, carries}
 use Rattle.model.specs.Passes.{Store, infer, Found}
 use Rattle.model.specs.Measure.{ceiling}
 use Rattle.model.specs.Body.{enter-uses, frame}
-use Rattle.model.specs.Record.{entries, statement-record, lent, writable}
+use Rattle.model.specs.Record.{entries, statement-record, lent, numbers, writable}
 use Rattle.model.specs.Whole.{passes, ghost-statements, with-buffer, accepted, denied, result, shorter, found, whole}
 use Rattle.model.specs.Replay.{Replayed}
+use Rattle.model.specs.Told.{Numbered}
 use Rattle.base.specs.Tests.{split, clash, and-left}
 use Rattle.base.specs.Answer.{then-done}
+use Rattle.base.specs.Forgotten.{told-front}
 use Rattle.base.specs.Function.{FunctionFacts, function-facts}
 use Rattle.laws.specs.Valid.{Valid}
 use Rattle.records.specs.Recorded.{recorded-front, length-record}
@@ -38,6 +40,7 @@ use Rattle.graph.specs.Trees.{Trees}
 use Rattle.graph.specs.Bridge.{player}
 use Rattle.graph.specs.Lawful.{frame-bodies, frame-lawful, entry-enters}
 use Rattle.graph.specs.Demand.{passes-replayed}
+use Rattle.graph.specs.Told.{passes-numbered}
 use Rattle.demand.specs.States.{Ok, good-valid, frame-lattice, folded-good, frame-collects, frame-trees}
 
 -- refusals 1, 2 and 4 are passed
@@ -98,6 +101,12 @@ module _ {Γ fn : List ℕ} (H : Passed Γ fn) where
   pub front-demand : {r : Found Forest At} (rest : List ℕ) → passes Γ fn ≡ done r → Replayed Γ fn (statement-record (entry-point fn) (r .lines) ++ rest)
   front-demand {r} rest e = passes-replayed facts (H .places) trees (frame-lattice Γ fn) (frame-collects Γ fn (H .types)) (folded-good Γ fn facts)
       (statement-record (entry-point fn) (r .lines) ++ rest) (recorded-front (entry-point fn) (r .lines) rest) e
+
+  -- and the numbers beside it say where openings began, whatever words stand behind them
+  pub front-numbered : {r : Found Forest At} (rest more : List ℕ) → passes Γ fn ≡ done r
+      → Numbered Γ fn (statement-record (entry-point fn) (r .lines) ++ rest) (numbers (r .lines) ++ more)
+  front-numbered {r} rest more e = passes-numbered facts (H .places) trees (frame-lattice Γ fn) (frame-collects Γ fn (H .types)) (folded-good Γ fn facts)
+      (statement-record (entry-point fn) (r .lines) ++ rest) (numbers (r .lines) ++ more) (recorded-front (entry-point fn) (r .lines) rest) (told-front (r .lines) more) e
 
 -- AN ACCEPTED CALL
 

@@ -24,7 +24,7 @@ use Rattle.graph.specs.Targets.{targets-once, frame-edges, returns-none}
 use Rattle.graph.specs.Points.{Ran, body-ran, ran-listed, frame-listed, rests-inside, frame-points}
 use Rattle.graph.specs.Used.{matched-used}
 use Rattle.graph.specs.Trees.{small-good, Trees}
-use Rattle.graph.specs.Through.{same-parts, follow-through, follow-fine, ran-gone}
+use Rattle.graph.specs.Through.{same-parts, follow-through, follow-fine, follow-tells, ran-gone}
 use Rattle.graph.specs.Departs.{Departs, exits-depart}
 use Rattle.graph.specs.Bridge.{player, carries-same}
 
@@ -61,7 +61,7 @@ module _ {Γ fn : List ℕ} (A : FunctionFacts fn) (P : places-ok fn ≡ true) {
             departs = λ {x} k. split (returns fn b)
                 (λ e. no-member (rw (ran-listed Γ fn R ∙ returns-none A (R .block) e) at (has-map target k)))
                 (λ e. ap (own Γ fn (x .item) (targets fn b) (matched fn b)) (G .plain e) ∙ (each-has (ran-departs R g) k) .0);
-            fine = follow-fine Γ f (G .follow);
+            fine = (follow-fine Γ f (G .follow), follow-tells Γ f (G .follow));
           }
 
   -- all that is asked

@@ -37,3 +37,5 @@ pub mod Bridge
 pub mod Lawful
 -- 5. DEMAND 3 over a function record, given what is asked of the trees: passes-replayed
 pub mod Demand
+-- the numbers beside its statements say where openings began: passes-numbered
+pub mod Told

@@ -1,5 +1,5 @@
 -- The replay goes through a block as the block's own run did: by a script that has the run's statements at each point it comes to the
--- same state, and each place used is quiet. Behind the statements of a return it stands where those lead.
+-- same state, each place used is quiet, and each unfold tells where the opening began. Behind the statements of a return it stands where those lead.
 use mathlib.Core.Path.{_≡_, refl, sym, _∙_, ap, subst, subst₂}
 use mathlib.Core.Bool.{true, false}
 use mathlib.Core.List.{List, [], _∷_, _++_, map, append-nil}
@@ -19,6 +19,7 @@ use Rattle.model.specs.Block.{uses-place, places-ok, Station, is-station, stati
 use Rattle.model.specs.Frame.{Line, mark, Work}
 use Rattle.model.specs.Body.{use-at, pass-stations, ret-lines, frame}
 use Rattle.model.specs.Replay.{at-point, look, stand, through, Quiet, Fine, fine-end, fine-on}
+use Rattle.model.specs.Told.{Tells, Tells-each, tells-end, tells-on}
 use Rattle.base.specs.Tests.{split, clash, eqb-sym}
 use Rattle.base.specs.Answer.{split-answer, then-done}
 use Rattle.base.specs.Each.{Each, each-none, each-more, each-same, each-both, each-front}
@@ -40,7 +41,7 @@ same-parts {A} {B} {a} {c} {b} {d} e = let x : _≡_ {A = A × B} (a, b) (c, d) 
 pub data Follow (Γ : List ℕ) (f : ℕ → List At) : List Station → Forest → Forest → Type 0 where
   follow-end : {E : Forest} → Follow Γ f [] E E
   follow-on : {s : Station} {ss : List Station} {E D M : Forest} → carries-at Γ (f (s .point)) E ≡ done D
-      → ((q : Spot) → s .used ≡ some q → Quiet Γ q D) → Follow Γ f ss D M → Follow Γ f (s ∷ ss) E M
+      → ((q : Spot) → s .used ≡ some q → Quiet Γ q D × Tells Γ q E (f (s .point))) → Follow Γ f ss D M → Follow Γ f (s ∷ ss) E M
 
 module _ (Γ : List ℕ) (f : ℕ → List At) where
   -- to look at a place that is quiet changes nothing
@@ -53,12 +54,17 @@ module _ (Γ : List ℕ) (f : ℕ → List At) where
   pub follow-through : {ss : List Station} {E M : Forest} → Follow Γ f ss E M → through Γ f ss E ≡ done M
   unfolding through stand
   follow-through follow-end = refl
-  follow-through (follow-on {s} {ss} {E} {D} c h k) = cc (looks (s .used) D h, follow-through k)
+  follow-through (follow-on {s} {ss} {E} {D} c h k) = cc (looks (s .used) D (λ q e. (h q e) .0), follow-through k)
 
   -- and it is fine
   pub follow-fine : {ss : List Station} {E M : Forest} → Follow Γ f ss E M → Fine Γ f ss E
   follow-fine follow-end = fine-end
-  follow-fine (follow-on c h k) = fine-on c h (follow-fine k)
+  follow-fine (follow-on c h k) = fine-on c (λ q e. (h q e) .0) (follow-fine k)
+
+  -- and each unfold tells where the opening began
+  pub follow-tells : {ss : List Station} {E M : Forest} → Follow Γ f ss E M → Tells-each Γ f ss E
+  follow-tells follow-end = tells-end
+  follow-tells (follow-on c h k) = tells-on c (λ q e. (h q e) .1) (follow-tells k)
 
   -- one list of stations after the other
   follow-append : {ss ts : List Station} {E M N : Forest} → Follow Γ f ss E M → Follow Γ f ts M N → Follow Γ f (ss ++ ts) E N
@@ -74,14 +80,14 @@ module _ (Γ fn : List ℕ) {Ok : Forest → Type 0} (T : Trees Γ fn Ok) where
   record Stood (i : ℕ) (u : Option Spot) (E D : Forest) (ls : List (Line At)) : Type 0 where
     good : Fair D
     carried : carries-at Γ (at-point i ls) E ≡ done D
-    quiet : (q : Spot) → u ≡ some q → Quiet Γ q D
+    quiet : (q : Spot) → u ≡ some q → Quiet Γ q D × Tells Γ q E (at-point i ls)
 
   -- a place used at a station
   project-stood : (i : ℕ) (q : Spot) {E D : Forest} {ts : List At} → Projected Γ Ok q E D ts → Stood i (some q) E D (mark i ts)
   project-stood i q {ts} P = record {
     good = small-good Γ fn (P .ok) (P .small);
     carried = cc (at-mark i ts, P .carried);
-    quiet = λ p c. let x : q ≡ p = cc in rw x at (P .quiet);
+    quiet = λ p c. let x : q ≡ p = cc in (rw x at (P .quiet), rw (← x, at-mark i ts) (P .tells));
   }
 
   -- any station
@@ -117,7 +123,7 @@ module _ (Γ fn : List ℕ) {Ok : Forest → Type 0} (T : Trees Γ fn Ok) where
       let there : Each (λ t. f (t .point) ≡ at-point (t .point) (w .1)) ss = each-same (λ t j. j .0 ∙ ap (at-point (t .point)) (sym y)
       ∙ at-second (t .point) (w .1) (use-points Γ fn (λ i. eqb i (t .point) ≡ false) p (s .used) E (eqb-sym p (t .point) ∙ j .1) u)) (each-both hs away) in
       let (F, n) = pass-follows f as′ (once-tail o) (r .0) (S .good) v there in
-      subst (λ N. Follow Γ f (s ∷ ss) E N × Fair N) z (follow-on (ap (λ ts. carries-at Γ ts E) here ∙ S .carried) (S .quiet) F, n)
+      subst (λ N. Follow Γ f (s ∷ ss) E N × Fair N) z (follow-on (ap (λ ts. carries-at Γ ts E) here ∙ S .carried) (λ q i. let Q = S .quiet q i in (Q .0, rw here (Q .1))) F, n)
 
 -- A BLOCK'S STATIONS
 

@@ -46,7 +46,12 @@ pub mod Projected
 pub mod Projection
 -- what is recorded: Unfold of the walked place without its last element, or Fold of the place: recording-unfold, projection-recording
 pub mod Recorded
--- no statement holds an index: projection-unindexed, collects-unindexed, folds-at-ret-unindexed
+-- the number beside an unfold says where the opening began: began, passed-all, projection-tells
+pub mod Passed
+-- no statement holds an index (collects-unindexed, folds-at-ret-unindexed), and what is collected tells a dash (collects-dashed,
+-- unfoldss-dashed, folds-at-ret-dashed)
+pub mod Lifted
+-- nor what a projection records: projection-unindexed
 pub mod NoIndex
 -- how deep a join and a walk open: joins-depths, walk-deep
 pub mod Depth

@@ -1,28 +1,26 @@
--- No statement recorded or collected holds an index. A projection's Fold is of the whole place (`fold-whole`; the source asserts
+-- No statement recorded holds an index. A projection's Fold is of the whole place (`fold-whole`; the source asserts
 -- it): in a tree of a type an index stands at a folded node.
 use mathlib.Core.Path.{_≡_, refl, sym, _∙_}
-use mathlib.Core.Bool.{true, false, true≢false, Bool, _&&_}
-use mathlib.Core.List.{List, [], _∷_, map}
+use mathlib.Core.Bool.{true, false, true≢false}
+use mathlib.Core.List.{List, [], _∷_}
 use Prim.Native.Nat.{ℕ, zero, suc}
 use lib.Dec.{eqb}
 use borrow.Author.Tests.{eqb-true}
 use Rattle.model.specs.Answer.{done}
-use Rattle.model.specs.Types.{kids, casts, kind, pointer}
-use Rattle.model.specs.Tree.{unfolded, Tree, Forest, type, node, leaf, more, nil}
+use Rattle.model.specs.Types.{kids, casts, kind}
+use Rattle.model.specs.Tree.{unfolded, Tree, Forest, type}
 use Rattle.model.specs.Typing.{Fit, Fits, fit-more, fit-node, fit-none, fit-leaf}
-use Rattle.model.specs.Place.{later, first, index, downcast, deref, field, Place, Spot, Statement, At, no-index}
+use Rattle.model.specs.Place.{later, first, index, downcast, deref, field, Place, Spot, no-index}
 use Rattle.model.specs.Walk.{walk, opened, step, pick, wide, reached, branch, projection, folding, project-at, changed, project}
-use Rattle.model.specs.Collect.{firsts, both, lift, folds-at-ret, collects, folds, foldss, collect, unfolds, folded, unfoldss}
-use Rattle.base.specs.Tests.{split, cond-split}
 use Rattle.base.specs.Answer.{good-bind, good-same, good-done, Good, good-cond, good-self, good-refused}
-use Rattle.base.specs.Each.{each-append, Each, each-more, each-map, each-none}
+use Rattle.base.specs.Each.{Each, each-more, each-map, each-none}
 use Rattle.laws.specs.Typing.{fits-leaves}
 use Rattle.laws.specs.Places.{base-no-index}
 use Rattle.laws.specs.Steps.{cast-law, index-law, step-law}
-use Rattle.laws.specs.Hops.{lift-deref, lift-cast, lift-field}
 use Rattle.laws.specs.Projected.{changed-goes}
 use Rattle.laws.specs.Walked.{opened-fit, openable-cast}
 use Rattle.laws.specs.Projection.{fitting-law}
+use Rattle.laws.specs.Lifted.{Unindexed, Unindexed-at}
 
 module _ (Γ : List ℕ) where
   -- a child of a tree of a type is one
@@ -65,14 +63,6 @@ module _ (Γ : List ℕ) where
 
 -- RECORDED
 
--- a statement without an index
-abbrev pub Unindexed : Statement → Type 0
-Unindexed c = no-index (c .place) ≡ true
-
--- on one of several trees
-abbrev pub Unindexed-at : At → Type 0
-Unindexed-at a = Unindexed (a .what)
-
 module _ (Γ : List ℕ) where
   -- what a place used in a tree records
   project-unindexed : (p : Place) {t : ℕ} {s : Tree} → Fit Γ t s → Good (λ r. Each Unindexed (r .1)) (project Γ p s)
@@ -94,69 +84,3 @@ module _ (Γ : List ℕ) where
   pub projection-unindexed : (q : Spot) {ts : List ℕ} {E : Forest} → Fits Γ ts E → Good (λ r. Each Unindexed-at (r .1)) (projection Γ q E)
   unfolding projection
   projection-unindexed q f = good-bind (project-at-unindexed (q .local) (q .place) f) (λ r h. good-bind (fitting-law Γ (r .0)) (λ D k. good-done h))
-
--- COLLECTED
-
--- a statement lifted to the node above
-lift-unindexed : (full : Bool) (k v : ℕ) (a : At) → Unindexed-at a → Unindexed (lift full k v a)
-lift-unindexed full k v a h = split (pointer k)
-    (λ e. cc (lift-deref full k v a e))
-    (λ e. split (full && eqb k 7) (λ d. cc (lift-cast full k v a e d)) (λ d. cc (lift-field full k v a e d)))
-
--- statements lifted
-lifts-unindexed : (full : Bool) (k v : ℕ) {l : List At} → Each Unindexed-at l → Each Unindexed (map (lift full k v) l)
-lifts-unindexed full k v h = each-map (lift full k v) (lift-unindexed full k v) h
-
--- those of the first tree, and those of the others
-both-unindexed : {l : List Statement} {r : List At} → Each Unindexed l → Each Unindexed-at r → Each Unindexed-at (both l r)
-both-unindexed h k = each-append (each-map first (λ c e. e) h) (each-map later (λ a e. e) k)
-
-module _ (Γ : List ℕ) where
-  -- what opens a folded tree
-  mutual
-    unfolding unfolds
-
-    pub unfolds-unindexed : (e : Tree) → Good (Each Unindexed) (unfolds Γ e)
-    unfolds-unindexed (leaf t) = good-done each-none
-    unfolds-unindexed (node t v ns) = good-cond _ (folded ns)
-        (λ e. good-cond _ (eqb (kind Γ t) 7) (λ d. good-refused) (λ d. good-done (each-more refl each-none)))
-        (λ e. good-bind (unfoldss-unindexed ns) (λ a h. good-done (lifts-unindexed true (kind Γ t) v h)))
-
-    pub unfoldss-unindexed : (es : Forest) → Good (Each Unindexed-at) (unfoldss Γ es)
-    unfoldss-unindexed nil = good-done each-none
-    unfoldss-unindexed (more e es) = good-bind (unfolds-unindexed e) (λ a h. good-bind (unfoldss-unindexed es) (λ b k. good-done (both-unindexed h k)))
-
-  -- what leads from one tree to another
-  mutual
-    unfolding collect
-
-    pub collect-unindexed : (s e : Tree) → Good (Each Unindexed) (collect Γ s e)
-    collect-unindexed (leaf t) e = unfolds-unindexed e
-    collect-unindexed (node t v ns) (leaf u) = good-done (each-more refl each-none)
-    collect-unindexed (node t v ns) (node u w ms) = good-cond _ (eqb v w)
-        (λ e. good-bind (collects-unindexed ns ms) (λ a h. good-done (lifts-unindexed false (kind Γ t) v h)))
-        (λ e. good-refused)
-
-    pub collects-unindexed : (ss es : Forest) → Good (Each Unindexed-at) (collects Γ ss es)
-    collects-unindexed nil es = good-done each-none
-    collects-unindexed (more s ss) nil = good-done each-none
-    collects-unindexed (more s ss) (more e es) = good-bind (collect-unindexed s e) (λ a h. good-bind (collects-unindexed ss es) (λ b k. good-done (both-unindexed h k)))
-
-  -- what a return owes
-  mutual
-    unfolding folds
-
-    pub folds-unindexed : (s : Tree) → Each Unindexed (folds Γ s)
-    folds-unindexed (leaf t) = each-none
-    folds-unindexed (node t v ns) = cond-split (Each Unindexed) (eqb (kind Γ t) 1) (λ e. each-none) (λ e.
-        cond-split (Each Unindexed) (eqb (kind Γ t) 2) (λ d. each-more refl each-none) (λ d. lifts-unindexed true (kind Γ t) v (foldss-unindexed ns)))
-
-    pub foldss-unindexed : (ss : Forest) → Each Unindexed-at (foldss Γ ss)
-    foldss-unindexed nil = each-none
-    foldss-unindexed (more s ss) = both-unindexed (folds-unindexed s) (foldss-unindexed ss)
-
-  -- of the arguments
-  pub folds-at-ret-unindexed : (n : ℕ) (E : Forest) → Each Unindexed-at (folds-at-ret Γ n E)
-  unfolding folds-at-ret
-  folds-at-ret-unindexed n nil = each-none
-  folds-at-ret-unindexed n (more s ss) = each-map later (λ a e. e) (foldss-unindexed (firsts n ss))

@@ -6,7 +6,7 @@ use Prim.Native.Nat.{ℕ, zero, suc}
 use Rattle.model.specs.Answer.{done}
 use Rattle.model.specs.Tree.{unfolded, nil, more, Tree, Forest}
 use Rattle.model.specs.Place.{first, walked, base, later, Fold, Spot, At, Statement, Unfold, Place}
-use Rattle.model.specs.Walk.{project, walk, project-at, projection, changed, folding, pick, reached}
+use Rattle.model.specs.Walk.{project, walk, project-at, projection, changed, folding, pick, reached, passed}
 use Rattle.base.specs.Answer.{good-refused, good-cond, good-bind, good-done, Good, good-self}
 use Rattle.laws.specs.Places.{without-last, base-walked}
 use Rattle.laws.specs.Projected.{changed-goes}
@@ -24,12 +24,12 @@ map-later i (c ∷ l) = cc (map-later i l)
 module _ (Γ : List ℕ) where
   -- what is recorded, by the walk's two flags
   abbrev pub recording : Place → Tree → List Statement
-  recording p s = cond (changed Γ p s) (record { verb = Unfold; place = base p } ∷ [])
-      (cond (unfolded (reached Γ p s)) (record { verb = Fold; place = p } ∷ []) [])
+  recording p s = cond (changed Γ p s) (record { verb = Unfold; place = base p; told = passed Γ p s } ∷ [])
+      (cond (unfolded (reached Γ p s)) (record { verb = Fold; place = p; told = 0 } ∷ []) [])
 
   -- after a change: Unfold of the walked place without its last element
   pub recording-unfold : (p : Place) (s : Tree) → changed Γ p s ≡ true
-      → recording p s ≡ record { verb = Unfold; place = without-last (walked p) } ∷ []
+      → recording p s ≡ record { verb = Unfold; place = without-last (walked p); told = passed Γ p s } ∷ []
   recording-unfold p s e = cc (base-walked p (changed-goes Γ p s e))
 
   -- of one tree

@@ -27,6 +27,8 @@ pub mod Written
 -- where code refuses: no tree stands there
 pub mod Absent
 -- STATEMENT RECORDS
+-- their entries, as they stand in the words: entries-next, entries-written
+pub mod Entries
 -- what is written is read back: recorded-written, recorded-lent
 pub mod Recorded
 -- places as items, as the calls on states take them: spot-back, spot-items

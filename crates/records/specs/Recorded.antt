@@ -1,20 +1,17 @@
 -- Statement records: what is written is read back, `recorded-written`, also from a longer lent array; and how long it is.
-use mathlib.Core.Path.{_≡_, refl, sym, ap, ap₂, _∙_}
+use mathlib.Core.Path.{_≡_, refl, sym, ap, _∙_}
 use mathlib.Core.List.{List, [], _∷_, _++_, map, append-assoc, append-nil}
 use Prim.Native.Nat.{ℕ, suc, _+_, _*_, _-_, _≤_}
 use native.Mathlib.Omega.{arith}
 use lib.Dec.{eqb}
-use lib.ListN.{length, take, drop, replicate, length-append, length-map, length-replicate}
-use lib.Seq.{take-at, drop-at}
+use lib.ListN.{length, replicate, length-append, length-map, length-replicate}
 use borrow.Author.Tests.{eqb-true}
-use Rattle.model.specs.State.{pairs}
-use Rattle.model.specs.Place.{Elem, deref, field, downcast, index, Place, Verb, Fold, Unfold, At}
+use Rattle.model.specs.Place.{Elem, deref, field, downcast, index, Place, Verb, Fold, Unfold, dash, At}
 use Rattle.model.specs.Block.{elem-of}
 use Rattle.model.specs.Frame.{Line, mark}
-use Rattle.model.specs.Record.{Entry, elem-entry, verb-entry, point-entry, line-entries, entries, statement-record, lent, Gathered, gather-one, gather, recorded}
+use Rattle.model.specs.Record.{Entry, elem-entry, verb-entry, point-entry, line-entries, entries, statement-record, lent, Gathered, gather-one, gather, recorded, forget-line}
 use Rattle.base.specs.Tests.{split}
-use Rattle.records.specs.Here.{firsts, seconds}
-use Rattle.records.specs.Pairs.{pairs-halves}
+use Rattle.records.specs.Entries.{entries-of, length-record-of, entries-written}
 
 -- an element comes back
 pub elem-back : (e : Elem) → elem-of ((elem-entry e) .0) ((elem-entry e) .1) ≡ e
@@ -27,10 +24,6 @@ elem-back index = refl
 -- what is gathered behind a statement's point: nothing but the lines
 abbrev pub clear : List (Line At) → Gathered
 clear ls = record { place = []; local = 0; verb = Fold; lines = ls }
-
--- two more
-two-add : (n : ℕ) → 2 + n ≡ suc (suc n)
-two-add n = omega arith
 
 -- a list that fits a lent array of n words, in it
 pub length-lent : (n : ℕ) (l : List ℕ) → length l ≤ n → length (lent n l) ≡ n
@@ -61,59 +54,43 @@ module _ (entry : ℕ) where
 
   -- a point
   gather-point : (p : ℕ) (g : Gathered) → gather-one entry (point-entry entry p) g
-      ≡ clear (record { point = p; stmt = record { number = g .local; what = record { verb = g .verb; place = g .place } } } ∷ g .lines)
+      ≡ clear (record { point = p; stmt = record { number = g .local; what = record { verb = g .verb; place = g .place; told = dash } } } ∷ g .lines)
   unfolding gather-one point-entry
   gather-point p g = split (eqb p entry) (λ e. cc (eqb-true p entry e)) (λ e. cc)
 
   -- a line in front of lines
   gather-line : (l : Line At) (es : List Entry) (ls : List (Line At)) → gather entry es ≡ clear ls
-      → gather entry (line-entries entry l ++ es) ≡ clear (l ∷ ls)
+      → gather entry (line-entries entry l ++ es) ≡ clear (forget-line l ∷ ls)
   unfolding gather line-entries
   gather-line l es ls h = rw (gather-elems (l .stmt .what .place) es ls h, gather-root (l .stmt .number), gather-verb (l .stmt .what .verb), gather-point (l .point))
 
-  -- the entries of lines give the lines back
-  pub gather-entries : (ls : List (Line At)) → gather entry (entries entry ls) ≡ clear ls
+  -- the entries of lines give back what they keep of them
+  pub gather-entries : (ls : List (Line At)) → gather entry (entries entry ls) ≡ clear (map forget-line ls)
   unfolding gather entries
   gather-entries [] = refl
-  gather-entries (l ∷ ls) = gather-line l (entries entry ls) ls (gather-entries ls)
-
-  -- its entries, with whatever words behind it
-  pub entries-front : (ls : List (Line At)) (r : List ℕ) → let n = length (entries entry ls) in
-      pairs (take n (drop 2 (statement-record entry ls ++ r))) (take n (drop (2 + n) (statement-record entry ls ++ r))) ≡ entries entry ls
-  unfolding statement-record
-  entries-front ls r =
-      let es : List Entry = entries entry ls in
-      let n : ℕ = length es in
-      let both : (firsts es ++ seconds es) ++ r ≡ firsts es ++ (seconds es ++ r) = append-assoc (firsts es) (seconds es) r in
-      let ops : take n ((firsts es ++ seconds es) ++ r) ≡ firsts es = ap (take n) both ∙ take-at (firsts es) _ n (length-map es _) in
-      let args : take n (drop (2 + n) (length ls ∷ n ∷ ((firsts es ++ seconds es) ++ r))) ≡ seconds es =
-      ap (λ (k : ℕ). take n (drop k (length ls ∷ n ∷ ((firsts es ++ seconds es) ++ r)))) (two-add n)
-      ∙ ap (λ (l : List ℕ). take n (drop n l)) both
-      ∙ ap (take n) (drop-at (firsts es) _ n (length-map es _))
-      ∙ take-at (seconds es) r n (length-map es _) in
-      ap₂ pairs ops args ∙ pairs-halves es
+  gather-entries (l ∷ ls) = gather-line l (entries entry ls) (map forget-line ls) (gather-entries ls)
 
   -- the record, read with whatever words behind it
-  pub recorded-front : (ls : List (Line At)) (r : List ℕ) → recorded entry (statement-record entry ls ++ r) ≡ ls
-  unfolding recorded statement-record
-  recorded-front ls r = ap (λ (l : List Entry). (gather entry l) .lines) (entries-front ls r) ∙ ap (λ (g : Gathered). g .lines) (gather-entries ls)
+  pub recorded-front : (ls : List (Line At)) (r : List ℕ) → recorded entry (statement-record entry ls ++ r) ≡ map forget-line ls
+  unfolding recorded statement-record entries-of
+  recorded-front ls r = ap (λ (l : List Entry). (gather entry l) .lines) (entries-written (length ls) (entries entry ls) r) ∙ ap (λ (g : Gathered). g .lines) (gather-entries ls)
 
   -- the record, read
-  pub recorded-written : (ls : List (Line At)) → recorded entry (statement-record entry ls) ≡ ls
+  pub recorded-written : (ls : List (Line At)) → recorded entry (statement-record entry ls) ≡ map forget-line ls
   recorded-written ls = ap (recorded entry) (sym (append-nil (statement-record entry ls))) ∙ recorded-front ls []
 
   -- read from a lent array, zeros behind it
-  pub recorded-lent : (n : ℕ) (ls : List (Line At)) → recorded entry (lent n (statement-record entry ls)) ≡ ls
+  pub recorded-lent : (n : ℕ) (ls : List (Line At)) → recorded entry (lent n (statement-record entry ls)) ≡ map forget-line ls
   unfolding lent
   recorded-lent n ls = recorded-front ls (replicate (n - length (statement-record entry ls)) 0)
 
   -- two words, and two for each entry
   pub length-record : (ls : List (Line At)) → length (statement-record entry ls) ≡ 2 + 2 * length (entries entry ls)
   unfolding statement-record
-  length-record ls = rw (length-append, length-map, length-map) (omega arith)
+  length-record ls = length-record-of (length ls) (entries entry ls)
 
-  -- lists of statements with one record are equal
-  pub record-injective : (ls ms : List (Line At)) → statement-record entry ls ≡ statement-record entry ms → ls ≡ ms
+  -- lists of statements with one record are equal, but for what is told beside them
+  pub record-injective : (ls ms : List (Line At)) → statement-record entry ls ≡ statement-record entry ms → map forget-line ls ≡ map forget-line ms
   record-injective ls ms e = cc (recorded-written ls, recorded-written ms)
 
   -- the entries of two lists of lines, one behind the other
@@ -146,9 +123,3 @@ module _ {Stmt : Type 0} (i : ℕ) where
   unfolding mark
   length-mark [] = refl
   length-mark (t ∷ a) = ap suc (length-mark a)
-
-  -- the statements themselves
-  pub mark-stmts : (a : List Stmt) → map (λ l. l .stmt) (mark i a) ≡ a
-  unfolding mark
-  mark-stmts [] = refl
-  mark-stmts (t ∷ a) = ap (λ (ts : List Stmt). t ∷ ts) (mark-stmts a)

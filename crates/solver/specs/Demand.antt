@@ -10,7 +10,7 @@ use Rattle.model.specs.Answer.{Answer, refused, done}
 use Rattle.model.specs.Frame.{Line, Exit, Work, Frame, target, Outcome, goto, leave, work, enter, visit, opening-exit, opening, carries, mark}
 use Rattle.model.specs.Passes.{Log}
 use Rattle.model.specs.Replay.{at-point, find}
-use Rattle.base.specs.Tests.{split, clash, eqb-same, eqb-sym}
+use Rattle.base.specs.Tests.{split, split-option, clash, eqb-same, eqb-sym}
 use Rattle.base.specs.Answer.{split-answer}
 use Rattle.base.specs.Each.{Each, each-none, each-more, each-append, each-same}
 use Rattle.solver.specs.Lists.{Has, here, later, has-map, has-image, each-has, each-of, elem-has, each-apart, Once, once-head, once-tail}
@@ -60,6 +60,15 @@ module _ {Env Stmt : Type 0} (F : Frame Env Stmt) where
         (λ j. rw (j, hop) (at-mark-other p (y .item) (gives F kept y) e))
         (λ j. rw (j, hop) refl)
 
+    -- at a jump's item each statement is one that is collected
+    pub hop-each : {P : Stmt → Type 0} (y : Exit Env) → ((E S : Env) (ts : List Stmt) → F .collect E S ≡ done ts → Each P ts) → Each P (at-point (y .item) (hop F kept y))
+    unfolding hop gives at-point
+    hop-each {P} y h = split (F .join-point (y .block))
+        (λ j. rw (j, hop, at-mark (y .item) (gives F kept y)) (split-option (kept (y .block))
+        (λ e. rw (e, gives) each-none)
+        (λ S e. split-answer (F .collect (y .state) S) (λ r d. rw (e, gives, d) each-none) (λ ts d. rw (e, gives, d) (h (y .state) S ts d)))))
+        (λ j. rw (j, hop) each-none)
+
     -- at a point that is no jump's item there is nothing of the jumps
     hops-none : (p : ℕ) {ys : List (Exit Env)} → Each (λ y. eqb (y .item) p ≡ false) ys → at-point p (hops F kept ys) ≡ []
     unfolding hops at-point
@@ -80,6 +89,78 @@ module _ {Env Stmt : Type 0} (F : Frame Env Stmt) where
           hops-one (once-tail o) h,
         )
 
+-- WHAT VISITS RECORD: Q of each line, if Q of what each block says and of what is collected at its jumps
+module _ {Env Stmt : Type 0} (F : Frame Env Stmt) {Ok : Env → Type 0} (B : Bodies F Ok) (G : Edges F) (kept : ℕ → Option Env) (Q : Line Stmt → Type 0)
+    (own : (b : ℕ) (E : Env) (w : Work Env Stmt) → b < F .blocks → F .body b E ≡ done w → Each Q (w .lines))
+    (col : (b : ℕ) (y : Exit Env) → b < F .blocks → Has (target y) (F .targets b) → Each Q (mark (y .item) (gives F kept y))) (P : Exit Env → Type 0) where
+  -- of each line of a calm outcome
+  abbrev Says : Outcome Env Stmt → Type 0
+  Says o = Calm P o → Each Q (tell F kept o)
+
+  -- a jump
+  goto-each : (go : ℕ → Env → Outcome Env Stmt) → ((c : ℕ) (D : Env) → c < F .blocks → Says (go c D))
+      → {b : ℕ} → b < F .blocks → (y : Exit Env) → Has (target y) (F .targets b) → Says (goto F go y)
+  unfolding goto tell
+  goto-each go f {b} m y h k = split (F .join-point (y .block))
+      (λ e. rw (e, goto) (each-append (col b y m h) each-none))
+      (λ e. rw (e, goto) (f (y .block) (y .state) (G .below h) (goto-calm-on F go y k e)))
+
+  -- all jumps of a block
+  leave-each : (go : ℕ → Env → Outcome Env Stmt) → ((c : ℕ) (D : Env) → c < F .blocks → Says (go c D))
+      → {b : ℕ} → b < F .blocks → {ys : List (Exit Env)} → Each (λ y. Has (target y) (F .targets b)) ys → Says (leave F go ys)
+  unfolding leave tell
+  leave-each go f m each-none k = each-none
+  leave-each go f m (each-more {a = y} {l = ys} h hs) k =
+      let (u, v) = calm-next (goto F go y) k in
+      rw (tell-next F kept (leave F go ys) u) (each-append (goto-each go f m y h u) (leave-each go f m hs v))
+
+  -- what follows a block's own run
+  work-each : (go : ℕ → Env → Outcome Env Stmt) → ((c : ℕ) (D : Env) → c < F .blocks → Says (go c D))
+      → {b : ℕ} → b < F .blocks → {E : Env} (a : Answer (Work Env Stmt)) → F .body b E ≡ a → Says (work F go a)
+  unfolding work
+  work-each go f m (refused r) e k = stop-calm k
+  work-each go f {b} m {E} (done w) e k = rw (tell-says F kept (w .lines) (leave F go (w .exits)))
+      (each-append (own b E w m e) (leave-each go f m (each-of (w .exits) (λ y h. exit-listed B e h)) (calm-says (w .lines) k)))
+
+  -- a block entered, at any fuel
+  enter-each : (n b : ℕ) (E : Env) → b < F .blocks → Says (enter F n b E)
+  unfolding enter tell
+  enter-each zero b E m k = stop-calm k
+  enter-each (suc n) b E m k = work-each (enter F n) (enter-each n) m (F .body b E) refl (calm-inner k)
+
+  -- a visit
+  pub visit-each : (b : ℕ) (E : Env) → b < F .blocks → Says (visit F b E)
+  unfolding visit
+  visit-each b E m = enter-each (F .blocks) b E m
+
+-- and so of each line of the whole record
+module _ {Env Stmt : Type 0} (F : Frame Env Stmt) {Ok : Env → Type 0} (B : Bodies F Ok) (G : Edges F) (kept : ℕ → Option Env) (Q : Line Stmt → Type 0)
+    (own : (b : ℕ) (E : Env) (w : Work Env Stmt) → b < F .blocks → F .body b E ≡ done w → Each Q (w .lines))
+    (collected : (i : ℕ) (E S : Env) (ts : List Stmt) → F .collect E S ≡ done ts → Each Q (mark i ts)) where
+  -- at a jump
+  gives-each : (i : ℕ) (y : Exit Env) → Each Q (mark i (gives F kept y))
+  unfolding gives mark
+  gives-each i y = split-option (kept (y .block))
+      (λ e. rw (e, gives) each-none)
+      (λ S e. split-answer (F .collect (y .state) S) (λ r d. rw (e, gives, d) each-none) (λ ts d. rw (e, gives, d) (collected i (y .state) S ts d)))
+
+  -- in a visit
+  visits-each : {P : Exit Env → Type 0} (b : ℕ) (E : Env) → b < F .blocks → Calm P (visit F b E) → Each Q (tell F kept (visit F b E))
+  visits-each {P} b E m = visit-each F B G kept Q own (λ c y l h. gives-each (y .item) y) P b E m
+
+  module _ (ts : List Stmt) {E₀ : Env} (S : Solution F Ok E₀ kept) (first : Each Q (mark (F .entry) ts)) where
+    -- in the opening
+    opening-each : Each Q (tell F kept (opening F E₀))
+    unfolding opening goto tell
+    opening-each = split (F .join-point 0)
+        (λ e. rw (e, goto) (each-append (gives-each (F .entry) (opening-exit F E₀)) each-none))
+        (λ e. rw (e, goto) (visits-each 0 E₀ (G .some-block) (goto-calm-on F (visit F) (opening-exit F E₀) (S .opens) e)))
+
+    pub story-each : {bs : List ℕ} → Each (λ b. (T : Env) × (kept b ≡ some T)) bs → Each Q (story F kept ts E₀ bs)
+    unfolding story stored-visit
+    story-each each-none = each-append first opening-each
+    story-each (each-more {a = b} s ss) = each-append (story-each ss) (rw (s .1, stored-visit) (visits-each b (s .0) ((S .placed b (s .0) (s .1)) .below) (S .visits b (s .0) (s .1))))
+
 module _ {Env Stmt : Type 0} (F : Frame Env Stmt) {Ok : Env → Type 0} (B : Bodies F Ok) (G : Edges F) {owner : ℕ → ℕ} (N : Points F owner)
     (kept : ℕ → Option Env) where
   -- what visits record is not at the entry
@@ -92,47 +173,10 @@ module _ {Env Stmt : Type 0} (F : Frame Env Stmt) {Ok : Env → Type 0} (B : Bod
       (λ e. clash (cc (eqb-true (l .point) (F .entry) e, N .alone b m, eqb-same b)))
       (λ e. e)
 
-  module _ (P : Exit Env → Type 0) where
-    -- the outcome records nothing at the entry's point
-    abbrev Away : Outcome Env Stmt → Type 0
-    Away o = Calm P o → Each Foreign (tell F kept o)
-
-    -- a jump
-    goto-away : (go : ℕ → Env → Outcome Env Stmt) → ((c : ℕ) (D : Env) → c < F .blocks → Away (go c D))
-        → {b : ℕ} → b < F .blocks → (y : Exit Env) → Has (target y) (F .targets b) → Away (goto F go y)
-    unfolding goto tell
-    goto-away go f m y h k = split (F .join-point (y .block))
-        (λ e. rw (e, goto) (each-append (each-mark (y .item) (gives F kept y) (λ t. owned-foreign m (record { point = y .item; stmt = t }) (N .owned h))) each-none))
-        (λ e. rw (e, goto) (f (y .block) (y .state) (G .below h) (goto-calm-on F go y k e)))
-
-    -- all jumps of a block
-    leave-away : (go : ℕ → Env → Outcome Env Stmt) → ((c : ℕ) (D : Env) → c < F .blocks → Away (go c D))
-        → {b : ℕ} → b < F .blocks → {ys : List (Exit Env)} → Each (λ y. Has (target y) (F .targets b)) ys → Away (leave F go ys)
-    unfolding leave tell
-    leave-away go f m each-none k = each-none
-    leave-away go f m (each-more {a = y} {l = ys} h hs) k =
-        let (u, v) = calm-next (goto F go y) k in
-        rw (tell-next F kept (leave F go ys) u) (each-append (goto-away go f m y h u) (leave-away go f m hs v))
-
-    -- what follows a block's own run
-    work-away : (go : ℕ → Env → Outcome Env Stmt) → ((c : ℕ) (D : Env) → c < F .blocks → Away (go c D))
-        → {b : ℕ} → b < F .blocks → {E : Env} (a : Answer (Work Env Stmt)) → F .body b E ≡ a → Away (work F go a)
-    unfolding work
-    work-away go f m (refused r) e k = stop-calm k
-    work-away go f m (done w) e k = rw (tell-says F kept (w .lines) (leave F go (w .exits)))
-        (each-append (each-same (λ l i. owned-foreign m l (i .owned)) (N .inside e))
-        (leave-away go f m (each-of (w .exits) (λ y h. exit-listed B e h)) (calm-says (w .lines) k)))
-
-    -- a block entered, at any fuel
-    enter-away : (n b : ℕ) (E : Env) → b < F .blocks → Away (enter F n b E)
-    unfolding enter tell
-    enter-away zero b E m k = stop-calm k
-    enter-away (suc n) b E m k = work-away (enter F n) (enter-away n) m (F .body b E) refl (calm-inner k)
-
-    -- a visit
-    visit-away : (b : ℕ) (E : Env) → b < F .blocks → Away (visit F b E)
-    unfolding visit
-    visit-away b E m = enter-away (F .blocks) b E m
+  visit-away : (P : Exit Env → Type 0) (b : ℕ) (E : Env) → b < F .blocks → Calm P (visit F b E) → Each Foreign (tell F kept (visit F b E))
+  visit-away P b E m = visit-each F B G kept Foreign
+      (λ c D w l e. each-same (λ i r. owned-foreign l i (r .owned)) (N .inside e))
+      (λ c y l h. each-mark (y .item) (gives F kept y) (λ t. owned-foreign l (record { point = y .item; stmt = t }) (N .owned h))) P b E m
 
 -- a jump carried out comes to a canonical state
 pub record Lands {Env Stmt : Type 0} (F : Frame Env Stmt) (kept : ℕ → Option Env) (E₀ : Env) (us : List Stmt) (D : Env) (c : ℕ) : Type 0 where
@@ -165,7 +209,7 @@ module _ {Env Stmt : Type 0} (F : Frame Env Stmt) {Ok : Env → Type 0} (B : Bod
       ∙ entry-story ss
 
   -- so the replay finds them there
-  entry-script : script F R (g .lines) (F .entry) ≡ ts ++ at-point (F .entry) (hop F kept (opening-exit F E₀))
+  pub entry-script : script F R (g .lines) (F .entry) ≡ ts ++ at-point (F .entry) (hop F kept (opening-exit F E₀))
   entry-script = rw (K .recorded) (entry-story (each-of (g .visited) (λ b h. K .only b (elem-has h))))
 
   -- what is recorded at a jump leads to the canonical state of the block it goes to

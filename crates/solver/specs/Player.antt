@@ -12,7 +12,7 @@ use Rattle.solver.specs.Lists.{Has}
 pub record Player (Env Stmt : Type 0) : Type 1 where
   pub through : ℕ → (ℕ → List Stmt) → Env → Answer Env  -- from the block's start up to its ender's targets
   pub depart : ℕ → ℕ → Env → Answer Env  -- the own unfolding of one of its target items
-  pub Fine : ℕ → (ℕ → List Stmt) → Env → Type 0  -- each place used in the block has a walk there that isn't refused, changes no tree and ends on a folded node
+  pub Fine : ℕ → (ℕ → List Stmt) → Env → Type 0  -- what is claimed of the block, entered in this state
 
 module _ {Env Stmt : Type 0} (F : Frame Env Stmt) (R : Player Env Stmt) (lines : List (Line Stmt)) where
   -- the statements at a point

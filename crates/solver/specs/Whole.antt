@@ -1,20 +1,24 @@
 -- Demand 3 of the whole analysis: after an accepted first pass the second is accepted, and along every list of jumps the replay
 -- of what is recorded meets no refusal and comes to one state at a block's start.
-use mathlib.Core.Path.{_≡_, refl, subst}
-use mathlib.Core.List.{List}
+use mathlib.Core.Path.{_≡_, refl, sym, _∙_, ap, subst}
+use mathlib.Core.List.{List, _++_}
 use mathlib.Core.Option.{Option}
-use Prim.Native.Nat.{ℕ}
+use Prim.Native.Nat.{ℕ, _<_}
 use Rattle.model.specs.Answer.{done}
-use Rattle.model.specs.Frame.{Line, Frame, carries}
+use Rattle.model.specs.Frame.{Line, mark, Work, Frame, opening-exit, carries}
 use Rattle.model.specs.Passes.{Store, infer, Log, Found, analyse}
+use Rattle.model.specs.Replay.{at-point}
 use Rattle.base.specs.Tests.{clash}
 use Rattle.base.specs.Answer.{split-answer}
+use Rattle.base.specs.Each.{Each}
+use Rattle.solver.specs.Lists.{each-of, elem-has}
 use Rattle.solver.specs.Player.{Player, script, replay, Path}
 use Rattle.solver.specs.Laws.{Good, Lawful}
 use Rattle.solver.specs.Solution.{Solution, infer-solves}
 use Rattle.solver.specs.Elaborate.{Elaborated, elaborate-works}
 use Rattle.solver.specs.Canon.{At, at-same}
-use Rattle.solver.specs.Demand.{entry-lands, play-comes}
+use Rattle.solver.specs.Count.{hop}
+use Rattle.solver.specs.Demand.{story-each, hop-each, entry-script, entry-lands, play-comes}
 
 -- DEMAND 3, one claim over all lists of jumps. E: all folded
 pub record Demand {Env Stmt : Type 0} (F : Frame Env Stmt) (R : Player Env Stmt) (E : Env) (ls : List (Line Stmt)) : Type 0 where
@@ -57,6 +61,16 @@ module _ {Env Stmt : Type 0} (F : Frame Env Stmt) (Ok : Env → Type 0) (owner :
       let z : q ≡ r = cc in
       rw z at M)
 
+  -- Q of each line that is recorded, if Q of what a block says, of what is collected, and of the entry's own
+  pub lines-each : (Q : Line Stmt → Type 0) → ((b : ℕ) (E : Env) (w : Work Env Stmt) → b < F .blocks → F .body b E ≡ done w → Each Q (w .lines))
+      → ((i : ℕ) (E S : Env) (us : List Stmt) → F .collect E S ≡ done us → Each Q (mark i us)) → Each Q (mark (F .entry) ts)
+      → {r : Found Env Stmt} → analyse F ts E₀ ≡ done r → Each Q (r .lines)
+  lines-each Q own collected first {r} a =
+      let M = accepted-made a in
+      let K = M .elaborated in
+      subst (Each Q) (sym (K .recorded) ∙ M .lines)
+      (story-each F (H .bodies) (H .edges) (r .kept) Q own collected ts (M .solution) first (each-of (M .log .visited) (λ b h. K .only b (elem-has h))))
+
   -- E: all folded
   module _ (E : Env) (enters : carries F ts E ≡ done E₀) {r : Found Env Stmt} (a : analyse F ts E₀ ≡ done r) where
     -- along every list of jumps: the state at the end is the canonical one
@@ -68,6 +82,15 @@ module _ {Env Stmt : Type 0} (F : Frame Env Stmt) (Ok : Env → Type 0) (owner :
         let k = play-comes F (H .bodies) (H .edges) (H .points) (H .collects) R (H .follows) (r .kept) ts E₀ (M .log) good (M .solution) (M .elaborated) (l .canon) p in
         subst (λ ls. Replays F R (r .kept) E₀ E ls is b) (M .lines)
         (record { state = k .state; replays = cc (l .carried, k .plays); fine = k .fine; canon = k .canon })
+
+    -- at the entry stand its own statements, then what is collected there
+    pub entry-says : {P : Stmt → Type 0} → ((D S : Env) (us : List Stmt) → F .collect D S ≡ done us → Each P us)
+        → (us : List Stmt) × (script F R (r .lines) (F .entry) ≡ ts ++ us) × Each P us
+    entry-says {P} h =
+        let M = accepted-made a in
+        let y = opening-exit F E₀ in
+        let q = entry-script F (H .bodies) (H .edges) (H .points) (H .collects) R (H .follows) (r .kept) ts E₀ (M .log) good (M .solution) (M .elaborated) in
+        (at-point (F .entry) (hop F (r .kept) y), ap (at-point (F .entry)) (sym (M .lines)) ∙ q, hop-each F (r .kept) y h)
 
     -- two lists that end in one block come to one state
     pub replay-same : {is js : List ℕ} {b : ℕ} → Path F 0 is b → Path F 0 js b → replay F R (r .lines) is E ≡ replay F R (r .lines) js E
