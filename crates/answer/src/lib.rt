@@ -39,6 +39,13 @@ fn buffer() -> [u32; 2050]
     [0; 2050]
 }
 
+// An array for the numbers: 1,024 entries are of 341 statements at the most.
+fn numbers() -> [u32; 341]
+    ensures { λ r. ⌜ length r ≡ 341 ⌝ }
+{
+    [0; 341]
+}
+
 // The statements of a function, or the refusal.
 fn answer_records(types: &[u32], fun: &[u32], text: &mut [u8]) -> usize
     requires { ⌜ length (now text) ≡ 14336 ⌝ }
@@ -47,13 +54,14 @@ fn answer_records(types: &[u32], fun: &[u32], text: &mut [u8]) -> usize
     let mut forms = store();
     let mut whats = store();
     let mut out = buffer();
-    let a = ghost_statements(types, fun, &mut forms, &mut whats, &mut out);
+    let mut told = numbers();
+    let a = ghost_statements(types, fun, &mut forms, &mut whats, &mut out, &mut told);
     match a {
         Ghosts::Refused(n) => print_refusal(text, n),
         Ghosts::Done {
             statements: _,
             entries: _,
-        } => print_record(&out, text),
+        } => print_record(&out, &told, text),
     }
 }
 

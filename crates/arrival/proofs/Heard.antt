@@ -12,12 +12,16 @@ use Rattle.model.specs.Function.{local-types}
 use Rattle.model.specs.Block.{entry-point}
 use Rattle.model.specs.Frame.{Line, mark}
 use Rattle.model.specs.Passes.{hear}
-use Rattle.model.specs.Record.{Entry, point-entry, entries}
+use Rattle.model.specs.Record.{Entry, point-entry}
 use Rattle.model.specs.Body.{frame}
 use Rattle.solver.specs.Direct as Direct
-use Rattle.records.specs.Recorded.{entries-append, length-mark}
+use Rattle.base.specs.Each.{Each}
+use Rattle.laws.specs.Lifted.{Dashed}
+use Rattle.records.specs.Recorded.{length-mark}
 use Rattle.base.specs.Tests.{clash}
+use Rattle.statements.specs.Marked.{marked}
 use Rattle.statements.specs.Kept.{Puts}
+use Rattle.statements.proofs.Marks.{marked-append}
 use Rattle.statements.proofs.Puts.{counted-alike}
 use Rattle.statements.specs.declared.Out.{Out}
 use Rattle.state.specs.declared.nodes.State.{State}
@@ -67,20 +71,20 @@ spoken-told {fn} {recording = true} {ls} {ms} S T =
     record {
       pen = P .recording ∙ S .pen;
       counted = P .counted;
-      kept = λ e. rw (length-append ls ms, entries-append (entry-point fn) ls ms) (P .kept (length ls) (entries (entry-point fn) ls) (S .kept refl));
+      kept = λ e. rw (length-append ls ms, marked-append (entry-point fn) ls ms) (P .kept (length ls) (marked (entry-point fn) ls) (S .kept refl));
     }
 
 -- the pass is the one that the record says
 pub spoken-own : {fn : List ℕ} {recording : Bool} {ls : List (Line At)} {out : List ℕ} {o : Out} → Spoken fn recording ls out o → Spoken fn (o .recording) ls out o
 spoken-own {fn} {ls = ls} {out} {o} S = subst (λ (b : Bool). Spoken fn b ls out o) (sym (S .pen)) S
 
--- statements that are put at the item i are told there
-pub puts-tells : {fn : List ℕ} {out out′ : List ℕ} {o q : Out} (i : ℕ) (ts : List At) {e : Entry} → o .recording ≡ true
+-- statements that are collected and put at the item i are told there
+pub puts-tells : {fn : List ℕ} {out out′ : List ℕ} {o q : Out} (i : ℕ) (ts : List At) {e : Entry} → Each Dashed ts → o .recording ≡ true
     → e ≡ point-entry (entry-point fn) (point fn false i) → Puts (length ts) out o out′ q (lines-of e (root 0) ts)
     → Tells fn out o out′ q (mark i ts)
 unfolding point
-puts-tells {fn} i ts t d P = record {
-  told = λ u. rw (length-mark i ts, ← lines-at (entry-point fn) i d ts) P;
+puts-tells {fn} i ts h t d P = record {
+  told = λ u. rw (length-mark i ts, ← lines-at (entry-point fn) i d h) P;
   silent = λ u. clash (cc);
 }
 

@@ -1,19 +1,23 @@
--- Statements that a collector records at one point are model's lines there. Assumes nothing.
-use mathlib.Core.Path.{_≡_, refl, sym, ap, _∙_}
-use mathlib.Core.List.{List, [], _∷_}
+-- Statements that a collector records at one point are model's lines there, which bear no mark. Assumes nothing.
+use mathlib.Core.Path.{_≡_, sym, ap, _∙_}
+use mathlib.Core.List.{List}
 use Prim.Native.Nat.{ℕ}
-use native.Mathlib.Nat.{zero-add}
-use Rattle.model.specs.Place.{At}
+use Rattle.model.specs.Place.{dash, At}
 use Rattle.model.specs.Frame.{mark}
-use Rattle.model.specs.Record.{Entry, point-entry, line-entries, entries}
-use Rattle.collectors.specs.Trail.{line, lines-of, root}
+use Rattle.model.specs.Record.{Entry, point-entry}
+use Rattle.base.specs.Each.{Each, each-none, each-more}
+use Rattle.laws.specs.Lifted.{Dashed}
+use Rattle.statements.specs.Marked.{marked}
+use Rattle.statements.proofs.Marks.{marked-dashed}
+use Rattle.collectors.specs.Trail.{lines-of, root}
+use Rattle.collectors.proofs.Lines.{lines-mark}
 
--- statements at one point, as entries
-entries-marked : (entry p : ℕ) (ts : List At) → entries entry (mark p ts) ≡ lines-of (point-entry entry p) (root 0) ts
-unfolding entries mark lines-of line root line-entries
-entries-marked entry p [] = refl
-entries-marked entry p (t ∷ ts) = cc (entries-marked entry p ts, zero-add (t .number))
+-- statements at one point tell what they told
+mark-dashed : (p : ℕ) {ts : List At} → Each Dashed ts → Each (λ l. l .stmt .what .told ≡ dash) (mark p ts)
+unfolding mark
+mark-dashed p each-none = each-none
+mark-dashed p (each-more e es) = each-more e (mark-dashed p es)
 
--- so what is recorded by the entry of that point
-pub lines-at : {x : Entry} (entry p : ℕ) → x ≡ point-entry entry p → (ts : List At) → lines-of x (root 0) ts ≡ entries entry (mark p ts)
-lines-at entry p e ts = ap (λ (y : Entry). lines-of y (root 0) ts) e ∙ sym (entries-marked entry p ts)
+-- what is recorded by the entry of that point
+pub lines-at : {x : Entry} (entry p : ℕ) → x ≡ point-entry entry p → {ts : List At} → Each Dashed ts → lines-of x (root 0) ts ≡ marked entry (mark p ts)
+lines-at entry p e {ts} h = ap (λ (y : Entry). lines-of y (root 0) ts) e ∙ sym (lines-mark entry p ts) ∙ sym (marked-dashed entry (mark-dashed p h))

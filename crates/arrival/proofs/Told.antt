@@ -6,11 +6,13 @@ use Prim.Native.Nat.{ℕ}
 use lib.Dec.{eqb}
 use lib.ListN.{length, set}
 use Rattle.model.specs.Words.{word}
-use Rattle.model.specs.Answer.{Answer}
+use Rattle.model.specs.Answer.{Answer, done}
 use Rattle.model.specs.Place.{At}
 use Rattle.model.specs.Block.{entry-point}
 use Rattle.model.specs.Record.{point-entry}
 use Rattle.base.specs.Tests.{clash}
+use Rattle.base.specs.Each.{Each}
+use Rattle.laws.specs.Lifted.{Dashed}
 use Rattle.statements.specs.Kept.{at-point}
 use Rattle.statements.specs.declared.Out.{Out}
 use Rattle.statements.specs.declared.Point.{Point}
@@ -25,7 +27,7 @@ use Rattle.arrival.proofs.Stores.{unless}
 
 -- by what is collected at the point p, which is x
 module _ {fn : List ℕ} {p : ℕ} {out out′ : List ℕ} {o : Out} {x : Point} (here : (x .op, x .arg) ≡ point-entry (entry-point fn) p) {a : Answer (List At)} {r : Collected}
-    (long : length out′ ≡ length out) (k : Collects out (at-point o x) out′ a r) {c : ℕ} {visited waits waits′ : List ℕ} where
+    (dashed : (ts : List At) → a ≡ done ts → Each Dashed ts) (long : length out′ ≡ length out) (k : Collects out (at-point o x) out′ a r) {c : ℕ} {visited waits waits′ : List ℕ} where
   -- a refusal
   pub reconciles-refused : {n : ℕ} → r ≡ collected.Refused n → Reconciles fn p c visited waits out o a waits′ out′ (Refused n)
   reconciles-refused {n} e =
@@ -40,6 +42,6 @@ module _ {fn : List ℕ} {p : ℕ} {out out′ : List ℕ} {o : Out} {x : Point}
       record {
         same = long;
         denied = λ m d. clash (cc);
-        told = λ ts d. let same : b ≡ ts = cc in (q, refl, puts-alike (alike-at o x) (rw (same, lines-at (entry-point fn) p here ts) at put));
+        told = λ ts d. let same : b ≡ ts = cc in (q, refl, puts-alike (alike-at o x) (rw (same, lines-at (entry-point fn) p here (dashed ts d)) at put));
         waiting = λ ts z. w ∙ ap (λ (b : Bool). cond b waits (set waits c 1)) d ∙ unless (eqb (word visited c) 0) waits (set waits c 1);
       }

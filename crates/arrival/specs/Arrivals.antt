@@ -16,10 +16,10 @@ use Rattle.model.specs.Collect.{collects}
 use Rattle.model.specs.Function.{local-types}
 use Rattle.model.specs.Block.{entry-point}
 use Rattle.model.specs.Frame.{mark}
-use Rattle.model.specs.Record.{entries}
 use Rattle.records.specs.Here.{Holds}
 use Rattle.state.specs.Value.{value}
 use Rattle.state.specs.declared.nodes.State.{State}
+use Rattle.statements.specs.Marked.{marked}
 use Rattle.statements.specs.Kept.{Puts}
 use Rattle.statements.specs.Points.{point}
 use Rattle.statements.specs.declared.Out.{Out}
@@ -85,7 +85,7 @@ pub record Reconciles (fn : List ℕ) (p c : ℕ) (visited waits : List ℕ) (ou
   pub same : length out′ ≡ length out
   pub denied : (n : ℕ) → a ≡ refused n → r ≡ Refused n
   pub told : (ts : List At) → a ≡ done ts
-      → (q : Out) × (r ≡ Over q) × Puts (length ts) out o out′ q (entries (entry-point fn) (mark p ts))
+      → (q : Out) × (r ≡ Over q) × Puts (length ts) out o out′ q (marked (entry-point fn) (mark p ts))
   pub waiting : (ts : List At) → a ≡ done ts → waits′ ≡ cond (eqb (word visited c) 0) (set waits c 1) waits
 
 -- a state is stored in the share of the block c

@@ -12,10 +12,10 @@ use Rattle.model.specs.Place.{At}
 use Rattle.model.specs.Function.{local-types, nitems, nblocks}
 use Rattle.model.specs.Block.{entry-point}
 use Rattle.model.specs.Frame.{Line, Exit}
-use Rattle.model.specs.Record.{entries}
 use Rattle.records.specs.Here.{Holds}
 use Rattle.state.specs.Value.{value}
 use Rattle.state.specs.declared.nodes.State.{State}
+use Rattle.statements.specs.Marked.{marked}
 use Rattle.statements.specs.Kept.{Counted, Kept}
 use Rattle.statements.specs.Points.{point}
 use Rattle.statements.specs.declared.Out.{Out}
@@ -31,11 +31,11 @@ Jump-in fn j = (j .item < nitems fn) × (j .block < nblocks fn)
 
 -- THE BUFFER
 
--- the lines so far stand in the buffer, if the pass records
+-- the lines so far stand in the buffer, with their marks, if the pass records
 pub record Spoken (fn : List ℕ) (recording : Bool) (ls : List (Line At)) (out : List ℕ) (o : Out) : Type 0 where
   pub pen : o .recording ≡ recording
   pub counted : Counted out o
-  pub kept : recording ≡ true → Kept (length ls) (entries (entry-point fn) ls) out o
+  pub kept : recording ≡ true → Kept (length ls) (marked (entry-point fn) ls) out o
 
 -- WHAT IS ASKED OF MODEL
 

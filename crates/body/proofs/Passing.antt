@@ -10,15 +10,16 @@ use Rattle.model.specs.Place.{At}
 use Rattle.model.specs.Function.{local-types}
 use Rattle.model.specs.Block.{entry-point}
 use Rattle.model.specs.Frame.{Line}
-use Rattle.model.specs.Record.{Entry, entries}
+use Rattle.model.specs.Record.{Entry}
 use Rattle.base.specs.Tests.{split, clash}
 use Rattle.base.specs.Answer.{split-answer}
 use Rattle.records.specs.Here.{Holds}
-use Rattle.records.specs.Recorded.{entries-append}
 use Rattle.state.specs.Value.{value}
 use Rattle.statements.specs.Kept.{Alike, Counted}
+use Rattle.statements.specs.Marked.{marked}
 use Rattle.statements.specs.declared.Out.{Out}
 use Rattle.statements.proofs.Puts.{alike-at, alike-then, counted-alike, puts-alike, puts-none, puts-then}
+use Rattle.statements.proofs.Marks.{marked-append}
 use Rattle.state.specs.Given.{Stated}
 use Rattle.statements.specs.Points.{Says, Tells}
 use Rattle.body.specs.Uses.{Gone, Passes, After}
@@ -28,12 +29,12 @@ use Rattle.body.proofs.Runs.{Run, behind}
 
 -- no line
 pub tells-none : (fn : List ℕ) {out : List ℕ} {o : Out} → Counted out o → Tells fn out o out o []
-unfolding entries
+unfolding marked
 tells-none fn {o = o} C = record { told = λ e. puts-none C; silent = λ e. (refl, alike-at o (o .point)) }
 
 -- one line, of these entries
 pub tells-one : {fn a b : List ℕ} {o p : Out} (ls : List (Line At)) {es : List Entry}
-    → length ls ≡ 1 → entries (entry-point fn) ls ≡ es → Says a o b p es → Tells fn a o b p ls
+    → length ls ≡ 1 → marked (entry-point fn) ls ≡ es → Says a o b p es → Tells fn a o b p ls
 tells-one ls k d S = record { told = λ e. rw (k, d) (S .told e); silent = S .silent }
 
 module _ {fn a b : List ℕ} {o p : Out} {ls : List (Line At)} (T : Tells fn a o b p ls) where
@@ -59,7 +60,7 @@ module _ {fn a b : List ℕ} {o p : Out} {ls : List (Line At)} (T : Tells fn a o
   -- lines, and more lines
   pub tells-then : {c : List ℕ} {q : Out} {ms : List (Line At)} → Tells fn b p c q ms → Tells fn a o c q (ls ++ ms)
   tells-then {ms = ms} U = record {
-    told = λ e. rw (length-append, entries-append) (puts-then (T .told e) (U .told (tells-recording ∙ e)));
+    told = λ e. rw (length-append, marked-append) (puts-then (T .told e) (U .told (tells-recording ∙ e)));
     silent = λ e. let (d, A) = T .silent e in let (f, B) = U .silent (tells-recording ∙ e) in (f ∙ d, alike-then A B);
   }
 

@@ -5,12 +5,13 @@ use mathlib.Core.Bool.{Bool, true}
 use mathlib.Core.List.{List, _∷_, append-nil}
 use mathlib.Core.Option.{some}
 use Prim.Native.Nat.{ℕ, suc, _+_, _≤_, _<_}
+use native.Mathlib.Omega.{arith}
 use lib.ListN.{length, take}
 use Rattle.model.specs.Answer.{Answer, refused, done, _>>=_}
 use Rattle.model.specs.State.{pairs}
 use Rattle.model.specs.Tree.{Forest}
 use Rattle.model.specs.Place.{Spot, At}
-use Rattle.model.specs.Walk.{projection}
+use Rattle.model.specs.Walk.{pick, projection}
 use Rattle.model.specs.Function.{nlocals, nitems, local-types}
 use Rattle.model.specs.Block.{root-before, spot-before, uses-place, entry-point}
 use Rattle.model.specs.Frame.{Line, mark}
@@ -21,6 +22,7 @@ use Rattle.base.specs.Answer.{bind-same}
 use Rattle.base.specs.Function.{FunctionFacts, function-facts, length-local-types}
 use Rattle.base.specs.Only.{one-apart, only-at}
 use Rattle.laws.specs.Places.{used-limits}
+use Rattle.laws.specs.Passed.{passed-most}
 use Rattle.laws.specs.Refusals.{running, projection-refusals}
 use Rattle.records.specs.Here.{Holds}
 use Rattle.graph.specs.Used.{place-used}
@@ -29,7 +31,7 @@ use Rattle.state.specs.Value.{value}
 use Rattle.state.specs.declared.nodes.State.{State}
 use Rattle.statements.specs.Kept.{Counted}
 use Rattle.statements.specs.declared.Out.{Out}
-use Rattle.env.specs.Answers.{Projects}
+use Rattle.env.specs.Answers.{number-with, Projects}
 use Rattle.env.specs.declared.project.Projected.the-variants.{Nothing, Fold, Unfold, Refused}
 use Rattle.env.specs.declared.project.Usage.{Usage}
 use Rattle.state.specs.Given.{Accepted}
@@ -37,7 +39,7 @@ use Rattle.statements.specs.Points.{point, Says, Tells}
 use Rattle.body.specs.Uses.{uses, Passes}
 use Rattle.body.proofs.Places.{place-spot}
 use Rattle.body.proofs.Runs.{Run, behind, uses-pass, uses-none}
-use Rattle.body.proofs.Told.{answer-refused, answer-nothing, answer-fold, answer-unfold, fold-entries, unfold-entries, unfold-short}
+use Rattle.body.proofs.Told.{answer-refused, answer-nothing, answer-fold, answer-unfold, number, fold-entries, unfold-entries, unfold-short}
 use Rattle.body.proofs.Passing.{tells-none, tells-one, refused-passes, done-passes}
 
 module _ {Γ os fn : List ℕ} (A : Accepted Γ os fn) (i : ℕ) (l : i < nitems fn) (u : uses-place fn i ≡ true) where
@@ -65,10 +67,11 @@ module _ {Γ os fn : List ℕ} (A : Accepted Γ os fn) (i : ℕ) (l : i < nitems
     abbrev here : spot-of ops args ≡ some (spot-before fn i)
     here = place-spot A l u refl locals ops args t p q
 
-    module _ {s : State} {r : Usage} (H : (E : Forest) (q : Spot) → Holds Γ locals (value s) E → spot-of ops args ≡ some q → Projects Γ locals s (projection Γ q E) r)
+    module _ {s : State} {r : Usage} (H : (E : Forest) (q : Spot) → Holds Γ locals (value s) E → spot-of ops args ≡ some q
+        → Projects Γ locals s (number Γ q E) (projection Γ q E) r)
         {E : Forest} (h : Holds Γ (local-types fn) (value s) E) where
       -- what the projection ensures
-      projects : Projects Γ locals s (projection Γ (spot-before fn i) E) r
+      projects : Projects Γ locals s (number Γ (spot-before fn i) E) (projection Γ (spot-before fn i) E) r
       projects = H E (spot-before fn i) (rw t h) here
 
       -- an unfold's items are among the place's
@@ -76,6 +79,18 @@ module _ {Γ os fn : List ℕ} (A : Accepted Γ os fn) (i : ℕ) (l : i < nitems
       placed-short e =
           let (w, d, (k, m)) = answer-unfold Γ (spot-before fn i) E (sym (projects .answer) ∙ e) in
           unfold-short ops args (spot-before fn i) here m
+
+      -- its number is model's, and small: the place has 128 elements at the most
+      number-small : number Γ (spot-before fn i) E < 255
+      number-small = omega (arith, passed-most Γ (spot-before fn i .place) (pick (spot-before fn i .local) E), (used-limits (nlocals fn) (spot-before fn i) (place-used F (A .places) l u)) .short)
+
+      number-is : {n : ℕ} → r .answer ≡ Unfold n → r .passed ≡ number Γ (spot-before fn i) E
+      number-is e =
+          let (w, d, k) = answer-unfold Γ (spot-before fn i) E (sym (projects .answer) ∙ e) in
+          projects .told ∙ ap (number-with (number Γ (spot-before fn i) E)) d
+
+      pub placed-small : {n : ℕ} → r .answer ≡ Unfold n → r .passed < 255
+      placed-small e = omega (arith, number-is e, number-small)
 
       module _ (entry : Bool) {out : List ℕ} {o : Out} where
         -- a refusal, whatever state it leaves
@@ -103,7 +118,7 @@ module _ {Γ os fn : List ℕ} (A : Accepted Γ os fn) (i : ℕ) (l : i < nitems
         module _ {out′ : List ℕ} {o′ : Out} {at : Entry} (a : at ≡ point-entry (entry-point fn) (point fn entry i)) where
           -- a fold
           pub placed-fold : r .answer ≡ Fold
-              → Says out o out′ o′ (at ∷ (15, 0) ∷ pairs (take (length ops) ops) (take (length ops) args))
+              → Says out o out′ o′ (at ∷ (15, 1) ∷ pairs (take (length ops) ops) (take (length ops) args))
               → Passes Γ fn out o out′ (uses Γ fn entry 1 i E) (record { state = r .state; out = o′; refusal = 0 })
           placed-fold e S =
               let (w, d, k) = answer-fold Γ (spot-before fn i) E (sym (projects .answer) ∙ e) in
@@ -112,9 +127,9 @@ module _ {Γ os fn : List ℕ} (A : Accepted Γ os fn) (i : ℕ) (l : i < nitems
 
           -- an unfold
           pub placed-unfold : {n : ℕ} → r .answer ≡ Unfold n
-              → Says out o out′ o′ (at ∷ (16, 0) ∷ pairs (take (n + 1) ops) (take (n + 1) args))
+              → Says out o out′ o′ (at ∷ (16, suc (r .passed)) ∷ pairs (take (n + 1) ops) (take (n + 1) args))
               → Passes Γ fn out o out′ (uses Γ fn entry 1 i E) (record { state = r .state; out = o′; refusal = 0 })
           placed-unfold e S =
               let (w, d, (k, b)) = answer-unfold Γ (spot-before fn i) E (sym (projects .answer) ∙ e) in
-              let (m, n) = unfold-entries ops args (spot-before fn i) here (entry-point fn) (point fn entry i) k b in
-              placed-done d (tells-one (mark (point fn entry i) (w .1)) m (n ∙ rw a) S)
+              let (m, n) = unfold-entries ops args (spot-before fn i) here (entry-point fn) (point fn entry i) k number-small b in
+              placed-done d (tells-one (mark (point fn entry i) (w .1)) m (n ∙ rw (a, number-is e)) S)

@@ -1,10 +1,10 @@
--- What a place used records, as the first items of the place: all of them for a fold, its walked place without the last element
--- for an unfold.
+-- What a place used records, as the first items of the place, with its mark: all of them for a fold, its walked place without the last
+-- element for an unfold.
 use mathlib.Core.Path.{_≡_, refl, sym, ap, ap₂, _∙_}
 use mathlib.Core.Bool.{Bool, true, false, cond}
 use mathlib.Core.List.{List, [], _∷_, map, append-nil}
 use mathlib.Core.Option.{some}
-use Prim.Native.Nat.{ℕ, _+_, _≤_}
+use Prim.Native.Nat.{ℕ, suc, _+_, _≤_, _<_}
 use native.Mathlib.Numerals.{add-one}
 use native.Mathlib.Omega.{arith}
 use lib.ListN.{length, take, length-map}
@@ -13,9 +13,9 @@ use Rattle.model.specs.Answer.{refused, done}
 use Rattle.model.specs.State.{pairs}
 use Rattle.model.specs.Tree.{Forest, unfolded}
 use Rattle.model.specs.Place.{Place, Spot, Verb, Fold, Unfold, At, base}
-use Rattle.model.specs.Walk.{projection, changed, reached, pick}
+use Rattle.model.specs.Walk.{projection, changed, reached, passed, pick}
 use Rattle.model.specs.Frame.{mark}
-use Rattle.model.specs.Record.{Entry, elem-entry, verb-entry, point-entry, line-entries, entries}
+use Rattle.model.specs.Record.{Entry, elem-entry, verb-entry, point-entry}
 use Rattle.model.specs.Calls.{Recorded, nothing, fold, unfold-at, recorded-verb, recorded-as, spot-of}
 use Rattle.base.specs.Tests.{clash}
 use Rattle.base.specs.Answer.{good-at, split-answer}
@@ -23,6 +23,8 @@ use Rattle.laws.specs.Places.{base-first, base-short}
 use Rattle.laws.specs.Recorded.{numbered, projection-recording}
 use Rattle.records.specs.Spots.{spot-entries, place-entries, spot-items}
 use Rattle.records.specs.Pairs.{pairs-halves, take-pairs, take-map}
+use Rattle.statements.specs.Marked.{mark-of, marked-line, marked}
+use Rattle.statements.proofs.Marks.{mark-small}
 use Rattle.blocks.proofs.Elements.{spot-ops, spot-args}
 use Rattle.env.specs.Answers.{recorded, projected}
 use Rattle.env.specs.declared.project.Projected.the-variants.{Nothing, Fold as Folds, Unfold as Unfolds, Refused}
@@ -53,36 +55,36 @@ module _ (ops args : List ℕ) (q : Spot) (is : spot-of ops args ≡ some q) whe
 
 -- THE ANSWERS
 
--- the statement of a verb on a spot
-abbrev pub statement : Spot → Verb → Place → At
-statement q v p = record { number = q .local; what = record { verb = v; place = p } }
+-- the statement of a verb on a spot, and what is told beside it
+abbrev statement : Spot → Verb → Place → ℕ → At
+statement q v p m = record { number = q .local; what = record { verb = v; place = p; told = m } }
 
--- what is recorded, by the walk's two flags
-abbrev recorded-by : Spot → Bool → Bool → List At
-recorded-by q b u = map (numbered (q .local))
-    (cond b (record { verb = Unfold; place = base (q .place) } ∷ []) (cond u (record { verb = Fold; place = q .place } ∷ []) []))
+-- what is recorded, by the walk's number and its two flags
+abbrev recorded-by : Spot → ℕ → Bool → Bool → List At
+recorded-by q m b u = map (numbered (q .local))
+    (cond b (record { verb = Unfold; place = base (q .place); told = m } ∷ []) (cond u (record { verb = Fold; place = q .place; told = 0 } ∷ []) []))
 
 -- nothing, by the answer
-by-nothing : (q : Spot) (b u : Bool) → recorded (recorded-as (recorded-by q b u)) ≡ Nothing → recorded-by q b u ≡ []
+by-nothing : (q : Spot) (m : ℕ) (b u : Bool) → recorded (recorded-as (recorded-by q m b u)) ≡ Nothing → recorded-by q m b u ≡ []
 unfolding recorded-as recorded-verb
-by-nothing q true u e = clash (cc)
-by-nothing q false true e = clash (cc)
-by-nothing q false false e = refl
+by-nothing q m true u e = clash (cc)
+by-nothing q m false true e = clash (cc)
+by-nothing q m false false e = refl
 
 -- a fold
-by-fold : (q : Spot) (b u : Bool) → recorded (recorded-as (recorded-by q b u)) ≡ Folds → recorded-by q b u ≡ statement q Fold (q .place) ∷ []
+by-fold : (q : Spot) (m : ℕ) (b u : Bool) → recorded (recorded-as (recorded-by q m b u)) ≡ Folds → recorded-by q m b u ≡ statement q Fold (q .place) 0 ∷ []
 unfolding recorded-as recorded-verb
-by-fold q true u e = clash (cc)
-by-fold q false true e = refl
-by-fold q false false e = clash (cc)
+by-fold q m true u e = clash (cc)
+by-fold q m false true e = refl
+by-fold q m false false e = clash (cc)
 
 -- an unfold
-by-unfold : (q : Spot) (b u : Bool) (n : ℕ) → recorded (recorded-as (recorded-by q b u)) ≡ Unfolds n
-    → (recorded-by q b u ≡ statement q Unfold (base (q .place)) ∷ []) × (n ≡ length (base (q .place)))
+by-unfold : (q : Spot) (m : ℕ) (b u : Bool) (n : ℕ) → recorded (recorded-as (recorded-by q m b u)) ≡ Unfolds n
+    → (recorded-by q m b u ≡ statement q Unfold (base (q .place)) m ∷ []) × (n ≡ length (base (q .place)))
 unfolding recorded-as recorded-verb
-by-unfold q true u n e = (refl, cc)
-by-unfold q false true n e = clash (cc)
-by-unfold q false false n e = clash (cc)
+by-unfold q m true u n e = (refl, cc)
+by-unfold q m false true n e = clash (cc)
+by-unfold q m false false n e = clash (cc)
 
 -- no value is a refusal
 recorded-fine : {P : Type 0} (x : Recorded) (n : ℕ) → recorded x ≡ Refused n → P
@@ -107,7 +109,10 @@ module _ (Γ : List ℕ) (q : Spot) (E : Forest) where
       (λ m d. recorded-fine x m (cc))
       (λ w d. (w, d, cc))
 
-  -- the walk's two flags
+  -- the walk's number and its two flags
+  abbrev pub number : ℕ
+  number = passed Γ (q .place) (pick (q .local) E)
+
   abbrev opened : Bool
   opened = changed Γ (q .place) (pick (q .local) E)
 
@@ -115,7 +120,7 @@ module _ (Γ : List ℕ) (q : Spot) (E : Forest) where
   ended = unfolded (reached Γ (q .place) (pick (q .local) E))
 
   -- what it records
-  value-recorded : {w : Forest × List At} → projection Γ q E ≡ done w → w .1 ≡ recorded-by q opened ended
+  value-recorded : {w : Forest × List At} → projection Γ q E ≡ done w → w .1 ≡ recorded-by q number opened ended
   value-recorded d = good-at (projection-recording Γ q E) d
 
   -- nothing
@@ -123,35 +128,36 @@ module _ (Γ : List ℕ) (q : Spot) (E : Forest) where
   answer-nothing e =
       let (w, d, r) = answer-value nothing e in
       let is = value-recorded d in
-      (w, d, is ∙ by-nothing q opened ended (ap (λ (l : List At). recorded (recorded-as l)) (sym is) ∙ r))
+      (w, d, is ∙ by-nothing q number opened ended (ap (λ (l : List At). recorded (recorded-as l)) (sym is) ∙ r))
 
   -- a fold
-  pub answer-fold : projected (projection Γ q E) ≡ Folds → Answers (λ as′. as′ ≡ statement q Fold (q .place) ∷ [])
+  pub answer-fold : projected (projection Γ q E) ≡ Folds → Answers (λ as′. as′ ≡ statement q Fold (q .place) 0 ∷ [])
   answer-fold e =
       let (w, d, r) = answer-value fold e in
       let is = value-recorded d in
-      (w, d, is ∙ by-fold q opened ended (ap (λ (l : List At). recorded (recorded-as l)) (sym is) ∙ r))
+      (w, d, is ∙ by-fold q number opened ended (ap (λ (l : List At). recorded (recorded-as l)) (sym is) ∙ r))
 
   -- an unfold
   pub answer-unfold : {n : ℕ} → projected (projection Γ q E) ≡ Unfolds n
-      → Answers (λ as′. (as′ ≡ statement q Unfold (base (q .place)) ∷ []) × (n ≡ length (base (q .place))))
+      → Answers (λ as′. (as′ ≡ statement q Unfold (base (q .place)) number ∷ []) × (n ≡ length (base (q .place))))
   answer-unfold {n} e =
       let (w, d, r) = answer-value (unfold-at n) e in
       let is = value-recorded d in
-      let (k, m) = by-unfold q opened ended n (ap (λ (l : List At). recorded (recorded-as l)) (sym is) ∙ r) in
+      let (k, m) = by-unfold q number opened ended n (ap (λ (l : List At). recorded (recorded-as l)) (sym is) ∙ r) in
       (w, d, (is ∙ k, m))
 
 -- THE ENTRIES
 
 module _ (ops args : List ℕ) (q : Spot) (is : spot-of ops args ≡ some q) (entry point : ℕ) where
   -- of a fold
-  pub fold-entries : {as′ : List At} → as′ ≡ statement q Fold (q .place) ∷ []
-      → (length (mark point as′) ≡ 1) × (entries entry (mark point as′) ≡ point-entry entry point ∷ (15, 0) ∷ pairs (take (length ops) ops) (take (length ops) args))
-  unfolding mark entries line-entries verb-entry
+  pub fold-entries : {as′ : List At} → as′ ≡ statement q Fold (q .place) 0 ∷ []
+      → (length (mark point as′) ≡ 1) × (marked entry (mark point as′) ≡ point-entry entry point ∷ (15, 1) ∷ pairs (take (length ops) ops) (take (length ops) args))
+  unfolding mark marked marked-line verb-entry mark-of
   fold-entries e = rw (e, items-all ops args q is) (refl, rw append-nil)
 
   -- of an unfold
-  pub unfold-entries : {as′ : List At} {n : ℕ} → as′ ≡ statement q Unfold (base (q .place)) ∷ [] → n ≡ length (base (q .place))
-      → (length (mark point as′) ≡ 1) × (entries entry (mark point as′) ≡ point-entry entry point ∷ (16, 0) ∷ pairs (take (n + 1) ops) (take (n + 1) args))
-  unfolding mark entries line-entries verb-entry
-  unfold-entries e d = rw (e, d, items-base ops args q is) (refl, rw append-nil)
+  pub unfold-entries : {as′ : List At} {m n : ℕ} → as′ ≡ statement q Unfold (base (q .place)) m ∷ [] → m < 255 → n ≡ length (base (q .place))
+      → (length (mark point as′) ≡ 1) × (marked entry (mark point as′) ≡ point-entry entry point ∷ (16, suc m) ∷ pairs (take (n + 1) ops) (take (n + 1) args))
+  unfolding mark marked marked-line verb-entry
+  unfold-entries {m} e l d = rw (e, d, items-base ops args q is, mark-small l)
+      (refl, ap (λ (es : List Entry). point-entry entry point ∷ (16, suc m) ∷ (0, q .local) ∷ es) (append-nil (place-entries (base (q .place)))))

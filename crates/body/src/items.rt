@@ -2,7 +2,7 @@
 ghost use mathlib.Core.Path.{_≡_};
 ghost use mathlib.Core.Bool.{true};
 ghost use mathlib.Core.List.{_∷_};
-ghost use Prim.Native.Nat.{_<_};
+ghost use Prim.Native.Nat.{suc, _<_};
 ghost use lib.ListN.{take};
 ghost use Rattle.moments.specs.Lent.{was, after};
 ghost use Rattle.model.specs.State.{pairs};
@@ -27,6 +27,7 @@ use statements::UNFOLD;
 use statements::at_point;
 use statements::point_of;
 use statements::record;
+use statements::small;
 
 // The nodes that the lent arrays have after some items, and what is recorded; a refusal, or 0.
 pub struct Passed {
@@ -42,14 +43,23 @@ pub struct Items {
     pub entry: bool,
 }
 
-// One statement of the first n items of a place, if the pass records.
-fn tell(out: &mut [u32], o: Out, verb: u32, ops: &[u32], args: &[u32], n: usize) -> Out
+// One statement of the first n items of a place, told with a number, if the pass records.
+fn tell(
+    out: &mut [u32],
+    o: Out,
+    verb: u32,
+    number: usize,
+    ops: &[u32],
+    args: &[u32],
+    n: usize,
+) -> Out
     requires { ⌜ Counted (now out) o ⌝ }
     requires { ⌜ Both-long n (now ops) (now args) ⌝ }
-    ensures { λ r. ⌜ Says (was out) o (after out) r (point-of o ∷ (verb, 0) ∷ pairs (take n (was ops)) (take n (was args))) ⌝ }
+    requires { ⌜ number < 255 ⌝ }
+    ensures { λ r. ⌜ Says (was out) o (after out) r (point-of o ∷ (verb, suc number) ∷ pairs (take n (was ops)) (take n (was args))) ⌝ }
 {
     if o.recording {
-        return record(out, o, verb, ops, args, n);
+        return record(out, o, verb, small(number + 1), ops, args, n);
     }
     o
 }
@@ -101,7 +111,7 @@ fn use_place(
             refusal: 0,
         },
         Projected::Fold => {
-            let q = tell(out, p, FOLD, ops, args, ops.len());
+            let q = tell(out, p, FOLD, 0, ops, args, ops.len());
             Passed {
                 nodes: r.nodes,
                 out: q,
@@ -109,7 +119,7 @@ fn use_place(
             }
         }
         Projected::Unfold(n) => {
-            let q = tell(out, p, UNFOLD, ops, args, n + 1);
+            let q = tell(out, p, UNFOLD, r.passed, ops, args, n + 1);
             Passed {
                 nodes: r.nodes,
                 out: q,

@@ -55,7 +55,7 @@ pub fn folds_node<'a>(
     }
     if kind == 2 {
         set_item(ops, args, c.depth, 1, 0);
-        let r = record(out, o, FOLD, ops, args, c.depth + 1);
+        let r = record(out, o, FOLD, 0, ops, args, c.depth + 1);
         let e = node_end(types, offs, forms, whats, i, c.typ);
         return reached(e, 0, r);
     }

@@ -62,7 +62,7 @@ pub fn collect_node<'a>(
         return reached(i1, a.second, a.out);
     }
     if f2[j] == 0 {
-        let r = record(out, o, FOLD, ops, args, c.depth);
+        let r = record(out, o, FOLD, 0, ops, args, c.depth);
         let e = node_end(types, offs, f1, w1, i, c.typ);
         return reached(e, j1, r);
     }

@@ -70,7 +70,7 @@ pub fn unfolds_node<'a>(
         if kind == 7 {
             return refuse(7, o);
         }
-        let r = record(out, o, UNFOLD, ops, args, c.depth);
+        let r = record(out, o, UNFOLD, 0, ops, args, c.depth);
         return reached(0, next + ks.count, r);
     }
     let k = Children {

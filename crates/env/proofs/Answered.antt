@@ -13,7 +13,7 @@ use Rattle.state.specs.declared.nodes.State.{State}
 use Rattle.env.specs.declared.project.Projected.the-variants.{Refused}
 use Rattle.env.specs.declared.project.Usage.{Usage}
 use Rattle.env.specs.declared.project.Outcome.the-variants.{Fine, Refused as Denied}
-use Rattle.env.specs.Answers.{recorded, projected, Projects, outcome, Moves}
+use Rattle.env.specs.Answers.{recorded, projected, number-with, Projects, outcome, Moves}
 
 module _ {Γ locals : List ℕ} {s : State} where
   -- a refusal gives the state back
@@ -30,15 +30,16 @@ module _ {Γ locals : List ℕ} {s : State} where
       }
 
   -- of a projection
-  pub projects-refused : {a : Answer (Forest × List At)} {n : ℕ} → a ≡ refused n → Projects Γ locals s a (record { answer = Refused n; state = s })
-  projects-refused e = record { answer = ap projected (sym e); moved = λ w d. clash (cc); kept = λ n d. refl }
+  pub projects-refused : {m : ℕ} {a : Answer (Forest × List At)} {n : ℕ} → a ≡ refused n → Projects Γ locals s m a (record { answer = Refused n; passed = 0; state = s })
+  projects-refused {m} e = record { answer = ap projected (sym e); told = ap (number-with m) (sym e); moved = λ w d. clash (cc); kept = λ n d. refl }
 
   -- what a projection gives
-  pub projects-done : {a : Answer (Forest × List At)} {w : Forest × List At} {r : Usage} → a ≡ done w → r .answer ≡ recorded (recorded-as (w .1))
-      → Holds Γ locals (value (r .state)) (w .0) → Projects Γ locals s a r
-  projects-done {w = w} {r} e p h =
+  pub projects-done : {m : ℕ} {a : Answer (Forest × List At)} {w : Forest × List At} {r : Usage} → a ≡ done w → r .answer ≡ recorded (recorded-as (w .1)) → r .passed ≡ m
+      → Holds Γ locals (value (r .state)) (w .0) → Projects Γ locals s m a r
+  projects-done {m} {w = w} {r} e p n h =
       record {
         answer = p ∙ ap projected (sym e);
+        told = n ∙ ap (number-with m) (sym e);
         moved = λ v d. let same : w ≡ v = cc in subst (λ (u : Forest × List At). Holds Γ locals (value (r .state)) (u .0)) same h;
         kept = λ n d. clash (cc);
       }

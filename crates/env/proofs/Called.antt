@@ -13,7 +13,7 @@ use Rattle.model.specs.Tree.{Forest}
 use Rattle.model.specs.State as Model
 use Rattle.model.specs.State.{decode, locals-ok, encode}
 use Rattle.model.specs.Place.{Spot, At, used-ok}
-use Rattle.model.specs.Walk.{projection}
+use Rattle.model.specs.Walk.{pick, passed, projection}
 use Rattle.model.specs.Calls.{typed, taken, placed, spot-of, Recorded, nothing, fold, unfold-at, recorded-as, call-projection}
 use Rattle.base.specs.Tests.{split, split-option, clash}
 use Rattle.base.specs.Answer.{split-answer, good-at}
@@ -27,7 +27,7 @@ use Rattle.state.specs.declared.nodes.State.{State}
 use Rattle.env.specs.declared.project.Projected.the-variants.{Refused}
 use Rattle.env.specs.declared.project.Usage.{Usage}
 use Rattle.env.specs.declared.project.Moved.{Moved}
-use Rattle.env.specs.Answers.{recorded, Projects, Moves, call-recorded, Records, refusal, call-outcome, Gives, Uses, Refuses}
+use Rattle.env.specs.Answers.{recorded, Projects, Moves, call-recorded, call-told, Records, refusal, call-outcome, Gives, Uses, Refuses}
 use Rattle.env.specs.There.{Wherever, Projects-there}
 use Rattle.env.specs.Given.{Asked}
 use Rattle.env.specs.Tested.{Tested}
@@ -82,9 +82,9 @@ tested-input {Γ} {locals} {s = s} t z =
 
 -- THE ANSWERS
 
--- what a projection gives, as the call does
-abbrev shown : List ℕ → Forest × List At → Answer (Recorded × Model.State)
-shown Γ r = done (recorded-as (r .1), encode Γ (r .0))
+-- what a projection gives, told with the number m, as the call does
+abbrev shown : List ℕ → ℕ → Forest × List At → Answer (Recorded × ℕ × Model.State)
+shown Γ m r = done (recorded-as (r .1), m, encode Γ (r .0))
 
 -- a state, as the call gives it
 abbrev given-back : List ℕ → Forest → Answer Model.State
@@ -92,18 +92,20 @@ given-back Γ D = done (encode Γ D)
 
 module _ {Γ locals : List ℕ} {s : State} where
   -- a projection of a state that is held is the call's
-  records-of : {a : Answer (Forest × List At)} {b : Answer (Recorded × Model.State)} {u : Usage} → b ≡ a >>= shown Γ → Projects Γ locals s a u → Records s b u
-  records-of {a} {b} {u} e P =
+  records-of : {m : ℕ} {a : Answer (Forest × List At)} {b : Answer (Recorded × ℕ × Model.State)} {u : Usage} → b ≡ a >>= shown Γ m → Projects Γ locals s m a u → Records s b u
+  records-of {m} {a} {b} {u} e P =
       split-answer a
       (λ n d. let k : b ≡ refused n = e ∙ rw d in record {
         answer = P .answer ∙ rw (d, k);
+        told = P .told ∙ rw (d, k);
         moved = λ w c. clash (cc);
-        kept = λ m c. P .kept n d;
+        kept = λ j c. P .kept n d;
       })
-      (λ w d. let k : b ≡ shown Γ w = e ∙ rw d in record {
+      (λ w d. let k : b ≡ shown Γ m w = e ∙ rw d in record {
         answer = P .answer ∙ rw (d, k);
-        moved = λ v c. let same : (recorded-as (w .1), encode Γ (w .0)) ≡ v = cc in sym (holds-encode (P .moved w d)) ∙ ap (λ (x : Recorded × Model.State). x .1) same;
-        kept = λ m c. clash (cc);
+        told = P .told ∙ rw (d, k);
+        moved = λ v c. let same : (recorded-as (w .1), m, encode Γ (w .0)) ≡ v = cc in sym (holds-encode (P .moved w d)) ∙ ap (λ (x : Recorded × ℕ × Model.State). x .2) same;
+        kept = λ j c. clash (cc);
       })
 
   -- and so of the other calls
@@ -147,7 +149,7 @@ module _ (Γ locals : List ℕ) (s : State) (ops args : List ℕ) where
   Promised u = Records s (call-projection Γ locals (value s) ops args) u × Uses Γ locals s ops args u
 
   projection-promised : {u : Usage} → Records s (call-projection Γ locals (value s) ops args) u → Promised u
-  projection-promised R =
+  projection-promised {u} R =
       let a = call-projection Γ locals (value s) ops args in (
         R,
         record {
@@ -156,24 +158,24 @@ module _ (Γ locals : List ℕ) (s : State) (ops args : List ℕ) where
               (λ w d. recorded-goes (w .0) n (cc (R .answer)));
           used = λ v h. split-answer a
               (λ k d. recorded-goes v k (cc (R .answer)))
-              (λ w d. let f : w .0 ≡ v = recorded-one (w .0) v (cc (R .answer)) in rw (← f, R .moved w d) (good-at (call-used Γ locals (value s) ops args) d));
+              (λ w d. let f : w .0 ≡ v = recorded-one (w .0) v (cc (R .answer)) in let t : u .passed ≡ w .1 = R .told ∙ ap call-told d in rw (← f, t, R .moved w d) (good-at (call-used Γ locals (value s) ops args) d));
         },
       )
 
   module _ {os : List ℕ} {r : ℕ} (t : Tested Γ locals os (value s) ops args (used-ok (length locals)) r) where
     -- a test stops the projection
-    pub projection-stops : r ≢ 0 → Promised (record { answer = Refused r; state = s })
+    pub projection-stops : r ≢ 0 → Promised (record { answer = Refused r; passed = 0; state = s })
     unfolding call-projection
     projection-stops n =
-        let e = call-stops t (λ E q. projection Γ q E >>= shown Γ) n in
-        projection-promised (record { answer = ap call-recorded (sym e); moved = λ w d. clash (cc); kept = λ n d. refl })
+        let e = call-stops t (λ E q. projection Γ q E >>= shown Γ (passed Γ (q .place) (pick (q .local) E))) n in
+        projection-promised (record { answer = ap call-recorded (sym e); told = ap call-told (sym e); moved = λ w d. clash (cc); kept = λ n d. refl })
 
     -- it is done
     pub projection-goes : r ≡ 0 → {u : Usage} → Projects-there Γ locals s ops args u → Promised u
     unfolding call-projection
     projection-goes z P =
         let (E, q, d, p, k) = tested-both t z in
-        projection-promised (records-of (call-goes t (λ E q. projection Γ q E >>= shown Γ) z d p k) (P E q (decode-holds Γ locals (value s) E d) p))
+        projection-promised (records-of (call-goes t (λ E q. projection Γ q E >>= shown Γ (passed Γ (q .place) (pick (q .local) E))) z d p k) (P E q (decode-holds Γ locals (value s) E d) p))
 
 -- THE OTHER CALLS
 

@@ -103,7 +103,7 @@ recorded-fine fold n e = clash (cc)
 recorded-fine (unfold-at k) n e = clash (cc)
 
 module _ {Γ locals : List ℕ} {s : State} {E : Forest} (fits : Fits Γ locals E) (q : Spot) (known : q .local < length locals) (u : usable (q .place) ≡ true) {r : Usage}
-    (P : Projects Γ locals s (projection Γ q E) r) where
+    {m : ℕ} (P : Projects Γ locals s m (projection Γ q E) r) where
   -- the projection is refused, and so is the fold: the arrays are as they were
   pub fold-refused : {n : ℕ} → r .answer ≡ Refused n
       → Moves Γ locals s (carrying Γ locals Fold q E) (record { answer = Denied n; state = state-in (r .state .forms) (r .state .whats) (s .nodes) })

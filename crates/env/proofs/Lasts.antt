@@ -12,7 +12,7 @@ use Rattle.model.specs.Answer.{Answer, refused, done}
 use Rattle.model.specs.Tree.{Tree, leaf, Forest, sizes}
 use Rattle.model.specs.Typing.{Fits}
 use Rattle.model.specs.State.{Code, levels, codess}
-use Rattle.model.specs.Place.{Elem, deref, field, downcast, index, Place, Spot, Unfold, steps, unfold-ok}
+use Rattle.model.specs.Place.{Elem, deref, field, downcast, index, Place, Spot, Unfold, dash, steps, unfold-ok}
 use Rattle.model.specs.Walk.{walk, pick, carry, carry-at, cast-at, downcasting}
 use Rattle.model.specs.Calls.{statement-at}
 use Rattle.model.specs.Block.{elem-of}
@@ -157,7 +157,7 @@ module _ (Γ : List ℕ) where
   acts-levels deref n p l = absurd (omega arith)
   acts-levels (field i) n p l = absurd (omega arith)
   acts-levels (downcast v) n p l = cast-levels Γ v p l
-  acts-levels index n p l = carry-levels Γ (record { verb = Unfold; place = p }) l
+  acts-levels index n p l = carry-levels Γ (record { verb = Unfold; place = p; told = dash }) l
 
 module _ {Γ ops args : List ℕ} {s : State} {w : Walk} (h : Typed Γ) (d : Sited Γ s ops args w) (z : getD (s .forms) (w .node) 0 ≡ 0) (o a : ℕ) (stays : distance (elem-of o a) ≡ 0) where
   -- the walk's open nodes end at a folded one

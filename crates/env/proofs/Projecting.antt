@@ -10,7 +10,7 @@ use Rattle.model.specs.Answer.{Answer, refused, done, _>>=_}
 use Rattle.model.specs.Tree.{Tree, Forest, more, unfolded}
 use Rattle.model.specs.Typing.{Fits, fit-none, fit-more}
 use Rattle.model.specs.Place.{Place, Spot, Statement, Fold, Unfold, At, later, base}
-use Rattle.model.specs.Walk.{nth, pick, walk, folding, reached, changed, project, project-at, projection, fitting, walk-at}
+use Rattle.model.specs.Walk.{nth, pick, walk, folding, reached, changed, passed, project, project-at, projection, fitting, walk-at}
 use Rattle.base.specs.Answer.{then-done}
 use Rattle.laws.specs.Places.{without-last}
 use Rattle.laws.specs.Recorded.{numbered}
@@ -34,13 +34,13 @@ with-these as′ D = done (D, as′)
 
 module _ (Γ : List ℕ) (p : Place) (s : Tree) {u : Tree} where
   -- the walk has changed the tree
-  project-unfolds : walk Γ done p s ≡ done u → changed Γ p s ≡ true → project Γ p s ≡ done (u, record { verb = Unfold; place = base p } ∷ [])
+  project-unfolds : walk Γ done p s ≡ done u → changed Γ p s ≡ true → project Γ p s ≡ done (u, record { verb = Unfold; place = base p; told = passed Γ p s } ∷ [])
   unfolding project
   project-unfolds e c = rw (e, c)
 
   -- it has not, and has come to an open node
   project-folds : {v : Tree} → walk Γ done p s ≡ done v → changed Γ p s ≡ false → unfolded (reached Γ p s) ≡ true → walk Γ folding p s ≡ done u
-      → project Γ p s ≡ done (u, record { verb = Fold; place = p } ∷ [])
+      → project Γ p s ≡ done (u, record { verb = Fold; place = p; told = 0 } ∷ [])
   unfolding project
   project-folds e c o f = rw (e, c, o, f)
 
@@ -83,19 +83,19 @@ module _ {Γ : List ℕ} where
 
     -- it has changed the tree
     pub projection-unfolds : {D : Forest} → changed Γ (q .place) (pick (q .local) E) ≡ true → walk-at Γ q E ≡ done D
-        → projection Γ q E ≡ fitting Γ D >>= with-these (numbered (q .local) (record { verb = Unfold; place = base (q .place) }) ∷ [])
+        → projection Γ q E ≡ fitting Γ D >>= with-these (numbered (q .local) (record { verb = Unfold; place = base (q .place); told = passed Γ (q .place) (pick (q .local) E) }) ∷ [])
     projection-unfolds c e =
         let (u, k, m) = then-done (walk Γ done (q .place) (pick (q .local) E)) (sym (nth-put fits (q .local) known (walk Γ done (q .place))) ∙ e) in
-        by-tree (record { verb = Unfold; place = base (q .place) } ∷ []) u (project-unfolds Γ (q .place) (pick (q .local) E) k c) m
+        by-tree (record { verb = Unfold; place = base (q .place); told = passed Γ (q .place) (pick (q .local) E) } ∷ []) u (project-unfolds Γ (q .place) (pick (q .local) E) k c) m
 
     -- it has not, and has come to an open node
     pub projection-folded : {B D : Forest} → changed Γ (q .place) (pick (q .local) E) ≡ false → unfolded (reached Γ (q .place) (pick (q .local) E)) ≡ true
         → walk-at Γ q E ≡ done B → nth (q .local) (walk Γ folding (q .place)) E ≡ done D
-        → projection Γ q E ≡ fitting Γ D >>= with-these (numbered (q .local) (record { verb = Fold; place = q .place }) ∷ [])
+        → projection Γ q E ≡ fitting Γ D >>= with-these (numbered (q .local) (record { verb = Fold; place = q .place; told = 0 }) ∷ [])
     projection-folded c o b e =
         let (v, j, n) = then-done (walk Γ done (q .place) (pick (q .local) E)) (sym (nth-put fits (q .local) known (walk Γ done (q .place))) ∙ b) in
         let (u, k, m) = then-done (walk Γ folding (q .place) (pick (q .local) E)) (sym (nth-put fits (q .local) known (walk Γ folding (q .place))) ∙ e) in
-        by-tree (record { verb = Fold; place = q .place } ∷ []) u (project-folds Γ (q .place) (pick (q .local) E) j c o k) m
+        by-tree (record { verb = Fold; place = q .place; told = 0 } ∷ []) u (project-folds Γ (q .place) (pick (q .local) E) j c o k) m
 
     -- and to a folded one
     pub projection-nothing : {D : Forest} → changed Γ (q .place) (pick (q .local) E) ≡ false → unfolded (reached Γ (q .place) (pick (q .local) E)) ≡ false

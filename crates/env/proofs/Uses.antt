@@ -9,7 +9,7 @@ use Rattle.model.specs.Answer.{refused, done, _>>=_}
 use Rattle.model.specs.Tree.{Tree, leaf, node, Forest, sizes, type, unfolded}
 use Rattle.model.specs.State.{Code, codes, codess}
 use Rattle.model.specs.Place.{Place, Spot, Fold, Unfold, At, base, walked, fold-ok}
-use Rattle.model.specs.Walk.{pick, walk, folding, carry, projection, fitting}
+use Rattle.model.specs.Walk.{pick, walk, folding, carry, passed, projection, fitting}
 use Rattle.model.specs.Calls.{recorded-as, recorded-verb}
 use Rattle.base.specs.Typed.{Typed}
 use Rattle.base.specs.Answer.{good-at}
@@ -27,7 +27,7 @@ use Rattle.state.specs.declared.nodes.State.{State}
 use Rattle.walk.specs.Fresh.{folded, trail}
 use Rattle.walk.specs.Applied.{Encoded, tip, opening, Opens, Carried, Folds, Folded}
 use Rattle.walk.specs.declared.along.Walk.{Walk}
-use Rattle.walk.proofs.Ends.{site-changed, site-stays, site-grafted}
+use Rattle.walk.proofs.Ends.{site-changed, site-passed, site-stays, site-grafted}
 use Rattle.env.specs.declared.project.Projected.the-variants.{Nothing, Fold as To-fold, Unfold as To-unfold}
 use Rattle.env.specs.Answers.{Projects}
 use Rattle.env.specs.Given.{Sited}
@@ -49,7 +49,14 @@ module _ {Γ ops args : List ℕ} {s : State} {w : Walk} (h : Typed Γ) (d : Sit
       let near = spot-limited n q 64 (fold-walks n q ok) .near in
       encoded-holds c
       (good-at (projection-fits Γ q (d .state) u (d .holds .trees .fits)) e)
-      (good-at (nth-levels (walk Γ folding (q .place)) (carry-levels Γ (record { verb = Fold; place = q .place }) (near, u)) (q .local) (d .state) (d .holds .deep)) (good-at (projection-folds Γ q (d .state) u) e))
+      (good-at (nth-levels (walk Γ folding (q .place)) (carry-levels Γ (record { verb = Fold; place = q .place; told = 0 }) (near, u)) (q .local) (d .state) (d .holds .deep)) (good-at (projection-folds Γ q (d .state) u) e))
+
+  -- how many elements it has passed; the walk counts the root
+  abbrev number : ℕ
+  number = passed Γ (d .spot .place) (pick (d .spot .local) (d .state))
+
+  number-is : w .passed - 1 ≡ number
+  number-is = omega (arith, site-passed h (d .is) (d .site))
 
   -- AN UNFOLD
 
@@ -63,7 +70,7 @@ module _ {Γ ops args : List ℕ} {s : State} {w : Walk} (h : Typed Γ) (d : Sit
     unfold-opens r = sited-opens h d unfold-grafts (λ e. refl) (λ n. absurd (n refl)) r
 
     -- what is recorded
-    unfold-is : projection Γ (d .spot) (d .state) ≡ fitting Γ (unfold-grafts .result) >>= with-these (numbered (d .spot .local) (record { verb = Unfold; place = base (d .spot .place) }) ∷ [])
+    unfold-is : projection Γ (d .spot) (d .state) ≡ fitting Γ (unfold-grafts .result) >>= with-these (numbered (d .spot .local) (record { verb = Unfold; place = base (d .spot .place); told = number }) ∷ [])
     unfold-is = projection-unfolds (d .holds .trees .fits) (d .spot) (d .known) (site-changed h (d .is) (d .site) l) (unfold-grafts .walks)
 
     -- there is no room for it
@@ -78,14 +85,14 @@ module _ {Γ ops args : List ℕ} {s : State} {w : Walk} (h : Typed Γ) (d : Sit
 
     -- there is
     unfold-done : s .nodes + w .fresh .added ≤ 512
-        → projection Γ (d .spot) (d .state) ≡ done (unfold-grafts .result, numbered (d .spot .local) (record { verb = Unfold; place = base (d .spot .place) }) ∷ [])
+        → projection Γ (d .spot) (d .state) ≡ done (unfold-grafts .result, numbered (d .spot .local) (record { verb = Unfold; place = base (d .spot .place); told = number }) ∷ [])
     unfold-done m = unfold-is ∙ rw (fitting-fits Γ (unfold-grafts .result) (omega (arith, grafts-nodes h d unfold-grafts)))
 
     -- it is carried out
     pub unfold-projects : s .nodes + w .fresh .added ≤ 512 → fold-ok (length (d .locals)) (d .spot) ≡ true → {r : State} → Carried Γ ops args s w 0 0 r
-        → Projects Γ (d .locals) s (projection Γ (d .spot) (d .state)) (record { answer = To-unfold (w .walked - 2); state = r })
+        → Projects Γ (d .locals) s number (projection Γ (d .spot) (d .state)) (record { answer = To-unfold (w .walked - 2); passed = w .passed - 1; state = r })
     unfolding recorded-as recorded-verb
-    unfold-projects m ok C = projects-done (unfold-done m) (ap To-unfold (sym unfold-length)) (used-holds ok (unfold-done m) (carried-encoded h d unfold-grafts refl refl C))
+    unfold-projects m ok C = projects-done (unfold-done m) (ap To-unfold (sym unfold-length)) number-is (used-holds ok (unfold-done m) (carried-encoded h d unfold-grafts refl refl C))
 
   -- A FOLD, OR NOTHING
 
@@ -146,7 +153,7 @@ module _ {Γ ops args : List ℕ} {s : State} {w : Walk} (h : Typed Γ) (d : Sit
           )
 
       -- what is recorded
-      fold-done : projection Γ (d .spot) (d .state) ≡ done (folded-state, numbered (d .spot .local) (record { verb = Fold; place = d .spot .place }) ∷ [])
+      fold-done : projection Γ (d .spot) (d .state) ≡ done (folded-state, numbered (d .spot .local) (record { verb = Fold; place = d .spot .place; told = 0 }) ∷ [])
       unfolding folded-state
       fold-done =
           projection-folded (d .holds .trees .fits) (d .spot) (d .known) (used-stands .unchanged) (ap unfolded (used-stands .reaches) ∙ reached-open) (used-stands .leads done) (used-stands .leads folding)
@@ -154,10 +161,10 @@ module _ {Γ ops args : List ℕ} {s : State} {w : Walk} (h : Typed Γ) (d : Sit
 
       -- a fold
       pub fold-projects : fold-ok (length (d .locals)) (d .spot) ≡ true → {r : State} → Folded Γ s (w .node) (w .typ) r
-          → Projects Γ (d .locals) s (projection Γ (d .spot) (d .state)) (record { answer = To-fold; state = r })
+          → Projects Γ (d .locals) s number (projection Γ (d .spot) (d .state)) (record { answer = To-fold; passed = w .passed - 1; state = r })
       unfolding recorded-as recorded-verb
       fold-projects ok {r} F =
-          projects-done fold-done refl (used-holds ok fold-done (subst (Encoded r) (sym folded-codes)
+          projects-done fold-done refl number-is (used-holds ok fold-done (subst (Encoded r) (sym folded-codes)
           (F .coded (used-stands .frame .before) (used-stands .frame .behind) reached-tree (d .site .passing .midway .here) used-encoded (used-stands .place))))
 
     module _ (z : getD (s .forms) (w .node) 0 ≡ 0) where
@@ -170,6 +177,6 @@ module _ {Γ ops args : List ℕ} {s : State} {w : Walk} (h : Typed Γ) (d : Sit
           e ∙ rw (fitting-fits Γ (d .state) (holds-few (d .holds)))
 
       -- nothing
-      pub nothing-projects : Projects Γ (d .locals) s (projection Γ (d .spot) (d .state)) (record { answer = Nothing; state = s })
+      pub nothing-projects : Projects Γ (d .locals) s number (projection Γ (d .spot) (d .state)) (record { answer = Nothing; passed = w .passed - 1; state = s })
       unfolding recorded-as
-      nothing-projects = projects-done {w = (d .state, [])} nothing-done refl (d .holds)
+      nothing-projects = projects-done {w = (d .state, [])} nothing-done refl number-is (d .holds)

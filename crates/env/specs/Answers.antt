@@ -31,7 +31,7 @@ use Rattle.env.specs.declared.project.On.the-variants.{Enum, Element, Re
 
 -- what a call in lent arrays leaves, as a call by value has it
 abbrev pub usage-in : Use → List ℕ → List ℕ → Usage
-usage-in r fs ws = record { answer = r .answer; state = state-in fs ws (r .nodes) }
+usage-in r fs ws = record { answer = r .answer; passed = r .passed; state = state-in fs ws (r .nodes) }
 
 abbrev pub moved-in : Change → List ℕ → List ℕ → Moved
 moved-in r fs ws = record { answer = r .answer; state = state-in fs ws (r .nodes) }
@@ -45,9 +45,15 @@ abbrev pub projected : Answer (Forest × List At) → Projected
 projected (refused n) = Refused n
 projected (done r) = recorded (recorded-as (r .1))
 
--- the code's projection r from the state s is model's a: its answer, and its state, which a refusal gives back as it came
-pub record Projects (Γ locals : List ℕ) (s : State) (a : Answer (Forest × List At)) (r : Usage) : Type 0 where
+-- the number told with an answer; 0 with a refusal
+abbrev pub number-with : {A : Type 0} → ℕ → Answer A → ℕ
+number-with m (refused n) = 0
+number-with m (done r) = m
+
+-- the code's projection r from the state s is model's a, told with the number m: its answer, and its state, which a refusal gives back as it came
+pub record Projects (Γ locals : List ℕ) (s : State) (m : ℕ) (a : Answer (Forest × List At)) (r : Usage) : Type 0 where
   pub answer : r .answer ≡ projected a
+  pub told : r .passed ≡ number-with m a
   pub moved : (w : Forest × List At) → a ≡ done w → Holds Γ locals (value (r .state)) (w .0)
   pub kept : (n : ℕ) → a ≡ refused n → r .state ≡ s
 
@@ -94,14 +100,19 @@ on-of (done (some t)) = Enum t
 
 -- THE CALLS FOR USERS
 
-abbrev pub call-recorded : Answer (Recorded × Model.State) → Projected
+abbrev pub call-recorded : Answer (Recorded × ℕ × Model.State) → Projected
 call-recorded (refused n) = Refused n
 call-recorded (done r) = recorded (r .0)
 
--- the answer of a projection is model's a: what is recorded, and the state, which a refusal gives back as it came
-pub record Records (s : State) (a : Answer (Recorded × Model.State)) (r : Usage) : Type 0 where
+abbrev pub call-told : Answer (Recorded × ℕ × Model.State) → ℕ
+call-told (refused n) = 0
+call-told (done r) = r .1
+
+-- the answer of a projection is model's a: what is recorded, the number told with it, and the state, which a refusal gives back as it came
+pub record Records (s : State) (a : Answer (Recorded × ℕ × Model.State)) (r : Usage) : Type 0 where
   pub answer : r .answer ≡ call-recorded a
-  pub moved : (w : Recorded × Model.State) → a ≡ done w → value (r .state) ≡ w .1
+  pub told : r .passed ≡ call-told a
+  pub moved : (w : Recorded × ℕ × Model.State) → a ≡ done w → value (r .state) ≡ w .2
   pub kept : (n : ℕ) → a ≡ refused n → r .state ≡ s
 
 abbrev pub call-outcome : Answer Model.State → Outcome
@@ -121,7 +132,7 @@ pub record Gives (s : State) (a : Answer Model.State) (r : Moved) : Type 0 where
 -- what a projection promises beside that: with which numbers it refuses, and what holds of what it records and of the state that it gives
 pub record Uses (Γ locals : List ℕ) (s : State) (ops args : List ℕ) (r : Usage) : Type 0 where
   pub numbered : (n : ℕ) → r .answer ≡ Refused n → One-of use-numbers n
-  pub used : (w : Recorded) → r .answer ≡ recorded w → Use-Promise Γ locals (value s) ops args w (value (r .state))
+  pub used : (w : Recorded) → r .answer ≡ recorded w → Use-Promise Γ locals (value s) ops args w (r .passed) (value (r .state))
 
 -- a call that gives a state alone refuses with these numbers
 abbrev pub Refuses : List ℕ → Moved → Type 0

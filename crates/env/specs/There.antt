@@ -7,7 +7,7 @@ use Prim.Native.Nat.{ℕ}
 use lib.ListN.{length, getD}
 use Rattle.model.specs.Tree.{Tree, Forest, sizes}
 use Rattle.model.specs.Place.{Elem, Verb, Spot, fold-ok, unfold-ok}
-use Rattle.model.specs.Walk.{pick, projection, downcasting, subject-at}
+use Rattle.model.specs.Walk.{pick, passed, projection, downcasting, subject-at}
 use Rattle.model.specs.Collect.{firsts}
 use Rattle.model.specs.Block.{elem-of}
 use Rattle.model.specs.Calls.{spot-of}
@@ -42,9 +42,9 @@ module _ (Γ locals : List ℕ) (s : State) (ops args : List ℕ) where
   abbrev pub Wherever : (Forest → Spot → Type 0) → Type 0
   Wherever X = (E : Forest) (q : Spot) → Holds Γ locals (value s) E → spot-of ops args ≡ some q → X E q
 
-  -- the place is used: what is recorded, and the state after
+  -- the place is used: what is recorded, the number told with it, and the state after
   abbrev pub Projects-there : Usage → Type 0
-  Projects-there r = Wherever (λ E q. Projects Γ locals s (projection Γ q E) r)
+  Projects-there r = Wherever (λ E q. Projects Γ locals s (passed Γ (q .place) (pick (q .local) E)) (projection Γ q E) r)
 
   -- a fold or an unfold of the place is carried out
   abbrev pub Carries-there : Verb → Moved → Type 0
@@ -82,7 +82,8 @@ module _ (Γ locals fs ws ops args : List ℕ) where
 -- the place is used there: it may be one of a fold
 abbrev pub Projects-at : (Γ : List ℕ) (s : State) (ops args : List ℕ) → Walk → Usage → Type 0
 Projects-at Γ s ops args w r =
-    (d : Sited Γ s ops args w) → fold-ok (length (d .locals)) (d .spot) ≡ true → Projects Γ (d .locals) s (projection Γ (d .spot) (d .state)) r
+    (d : Sited Γ s ops args w) → fold-ok (length (d .locals)) (d .spot) ≡ true
+    → Projects Γ (d .locals) s (passed Γ (d .spot .place) (pick (d .spot .local) (d .state))) (projection Γ (d .spot) (d .state)) r
 
 module _ (Γ : List ℕ) (s : State) (w : Walk) where
   -- it is the walk of some place

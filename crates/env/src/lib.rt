@@ -120,6 +120,7 @@ pub fn projection(types: &[u32], locals: &[u32], s: State, ops: &[u32], args: &[
     if r != 0 {
         return Usage {
             answer: Projected::Refused(r),
+            passed: 0,
             state: s,
         };
     }
@@ -138,6 +139,7 @@ pub fn projection(types: &[u32], locals: &[u32], s: State, ops: &[u32], args: &[
     let answer = u.answer;
     Usage {
         answer,
+        passed: u.passed,
         state: State {
             forms,
             whats,

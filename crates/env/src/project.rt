@@ -26,14 +26,17 @@ pub enum Projected {
     Refused(u32),
 }
 
-// A use in lent arrays, with the nodes that they have then; and of a state by value.
+// A use in lent arrays, with the nodes that they have then; and of a state by value. passed: how many elements the walk had passed before the
+// step that first opened a node, or all that it walked; 0 with a refusal.
 pub struct Use {
     pub answer: Projected,
+    pub passed: usize,
     pub nodes: usize,
 }
 
 pub struct Usage {
     pub answer: Projected,
+    pub passed: usize,
     pub state: State,
 }
 
@@ -123,17 +126,20 @@ fn used_at(
     requires { ⌜ Sited (now types) (state-in (now forms) (now whats) nodes) (now ops) (now args) w ⌝ }
     ensures { λ r. ⌜ Projects-at (was types) (state-in (was forms) (was whats) nodes) (was ops) (was args) w (usage-in r (after forms) (after whats)) ⌝ }
 {
+    let passed = w.passed - 1;
     let f = w.fresh;
     if w.passed < w.walked {
         if 512 < nodes + f.added {
             return Use {
                 answer: Projected::Refused(9),
+                passed: 0,
                 nodes,
             };
         }
         let n = open_nodes(types, offs, forms, whats, nodes, w, ops, args, 0, 0);
         return Use {
             answer: Projected::Unfold(w.walked - 2),
+            passed,
             nodes: n,
         };
     }
@@ -142,11 +148,13 @@ fn used_at(
         let n = fold_at(types, offs, forms, whats, nodes, i, w.typ);
         return Use {
             answer: Projected::Fold,
+            passed,
             nodes: n,
         };
     }
     Use {
         answer: Projected::Nothing,
+        passed,
         nodes,
     }
 }
@@ -169,6 +177,7 @@ fn used(
     let Walked::To(w) = a else {
         return Use {
             answer: Projected::Refused(refusal(a)),
+            passed: 0,
             nodes,
         };
     };

@@ -9,23 +9,24 @@ use lib.ListN.{length, drop}
 use lib.Dec.{eqb, leb}
 use borrow.Author.Tests.{eqb-true, leb-true}
 use Rattle.model.specs.Words.{word}
-use Rattle.model.specs.Whole.{whole}
+use Rattle.model.specs.Whole.{whole-told}
 use Rattle.model.specs.Rounds.{elem}
 use Rattle.model.specs.Crate.{records, Verdict, crate-statements}
 use Rattle.model.specs.Replay.{Replayed, Replayed-each}
+use Rattle.model.specs.Told.{number-ok, Numbered}
 use Rattle.model.specs.Promised.{One-of, whole-numbers, function-numbers, statement-numbers, crate-numbers, Refused-at}
 use Rattle.model.specs.Assign.{statement-items}
 use Rattle.base.specs.Tests.{split, clash, and-left, and-right}
 use Rattle.base.specs.Answer.{split-answer}
 use Rattle.base.specs.Only.{one-apart}
-use Rattle.fold_unfold.specs.Answers.{Whole}
+use Rattle.fold_unfold.specs.Answers.{Whole-told}
 use Rattle.fold_unfold.specs.declared.Ghosts.{Ghosts}
 use Rattle.fold_unfold.specs.declared.Ghosts.the-variants.{Done, Refused}
 use Rattle.whole_crate.specs.Called.{Called, Numbered as Crate-numbered}
 use Rattle.whole_crate.specs.declared.Crate.{Crate}
 use Rattle.whole_crate.specs.declared.Crate.the-variants.{Done as All, Refused as Stopped}
 use Rattle.whole_crate.proofs.Answering.{verdict-done, verdict-stopped}
-use Rattle.assign.specs.Answers.{Gives, Numbered}
+use Rattle.assign.specs.Answers.{Gives, Numbered as Items-numbered}
 use Rattle.assign.specs.declared.Items.{Items}
 use Rattle.assign.specs.declared.Items.the-variants.{Done as Given, Refused as Barred}
 use Rattle.exports.specs.Answers.{Exported, Exported-items, position-number, Exported-crate, Refusal-in}
@@ -35,30 +36,46 @@ one-more : (ns : List ℕ) (n : ℕ) → One-of ns n → One-of (0 ∷ ns) n
 unfolding elem
 one-more ns n e = split (eqb n 0) (λ d. rw d refl) (λ d. rw d e)
 
-module _ {Γ fn fs ws out fs′ ws′ out′ : List ℕ} {r : Ghosts} (W : Whole Γ fn fs ws out fs′ ws′ out′ r) where
+-- A FUNCTION
+
+-- what the call promises beside its answer, of its own answer and of the exported one's
+abbrev Promised : (Γ fn out′ told′ : List ℕ) → Ghosts → Type 0
+Promised Γ fn out′ told′ r = ((a b : ℕ) → r ≡ Done a b → Replayed Γ fn out′)
+    × (((a b : ℕ) → r ≡ Done a b → Numbered Γ fn out′ told′) × (((i : ℕ) → number-ok (word told′ i) ≡ true) × ((n : ℕ) → r ≡ Refused n → One-of whole-numbers n)))
+
+abbrev Promises : (Γ fn out′ told′ : List ℕ) → ℕ → Type 0
+Promises Γ fn out′ told′ n = (n ≡ 0 → Replayed Γ fn out′) × ((n ≡ 0 → Numbered Γ fn out′ told′) × (((i : ℕ) → number-ok (word told′ i) ≡ true) × One-of (0 ∷ whole-numbers) n))
+
+module _ {Γ fn fs ws out told fs′ ws′ out′ told′ : List ℕ} {r : Ghosts} (W : Whole-told Γ fn fs ws out told fs′ ws′ out′ told′ r) (P : Promised Γ fn out′ told′ r) where
   -- a refusal
-  pub refused-exports : {n : ℕ} → r ≡ Refused n → ((n : ℕ) → r ≡ Refused n → One-of whole-numbers n)
-      → Exported Γ fn fs ws out fs′ ws′ out′ n × ((n ≡ 0 → Replayed Γ fn out′) × One-of (0 ∷ whole-numbers) n)
+  pub refused-exports : {n : ℕ} → r ≡ Refused n → Exported Γ fn fs ws out told fs′ ws′ out′ told′ n × Promises Γ fn out′ told′ n
   unfolding elem
-  refused-exports {n} e N = split-answer ((whole Γ fn (length fs) (length ws) (length out)) .answer)
+  refused-exports {n} e =
+      let (R, (B, (S, N))) = P in
+      let some = one-apart whole-numbers 0 n (N n e) refl in
+      split-answer ((whole-told Γ fn (length fs) (length ws) (length out) (length told)) .result .answer)
       (λ k p. let q = W .answer in (
-        record { answer = cc; forms = W .forms; whats = W .whats; record-is = W .record-is },
-        (λ z. absurd (one-apart whole-numbers 0 n (N n e) refl z), one-more whole-numbers n (N n e)),
+        record { answer = cc; forms = W .forms; whats = W .whats; record-is = W .record-is; numbers-are = W .numbers-are },
+        (λ z. absurd (some z), (λ z. absurd (some z), (S, one-more whole-numbers n (N n e)))),
       ))
       (λ c p. let q = W .answer in clash (cc))
 
   -- a record
-  pub done-exports : {a b : ℕ} → r ≡ Done a b → ((a b : ℕ) → r ≡ Done a b → Replayed Γ fn out′)
-      → Exported Γ fn fs ws out fs′ ws′ out′ 0 × ((_≡_ {A = ℕ} 0 0 → Replayed Γ fn out′) × One-of (0 ∷ whole-numbers) 0)
+  pub done-exports : {a b : ℕ} → r ≡ Done a b → Exported Γ fn fs ws out told fs′ ws′ out′ told′ 0 × Promises Γ fn out′ told′ 0
   unfolding elem
-  done-exports {a} {b} e R = split-answer ((whole Γ fn (length fs) (length ws) (length out)) .answer)
+  done-exports {a} {b} e =
+      let (R, (B, (S, N))) = P in
+      split-answer ((whole-told Γ fn (length fs) (length ws) (length out) (length told)) .result .answer)
       (λ k p. let q = W .answer in clash (cc))
-      (λ c p. (record { answer = cc; forms = W .forms; whats = W .whats; record-is = W .record-is }, (λ z. R a b e, refl)))
+      (λ c p. (
+        record { answer = cc; forms = W .forms; whats = W .whats; record-is = W .record-is; numbers-are = W .numbers-are },
+        (λ z. R a b e, (λ z. B a b e, (S, refl))),
+      ))
 
 -- THE ITEMS OF A LIST OF STATEMENTS
 
 module _ {ws : List ℕ} {n : ℕ} {out′ : List ℕ} {r : Items} (G : Gives ws n out′ r) where
-  pub items-refused : {m : ℕ} → r ≡ Barred m → Numbered r → Exported-items ws n out′ m × One-of (0 ∷ statement-numbers) m
+  pub items-refused : {m : ℕ} → r ≡ Barred m → Items-numbered r → Exported-items ws n out′ m × One-of (0 ∷ statement-numbers) m
   items-refused {m} e N = split-answer (statement-items ws n)
       (λ k p. let q = G .answer in (record { answer = cc; left = G .left }, one-more statement-numbers m (N m e)))
       (λ es p. let q = G .answer in clash (cc))

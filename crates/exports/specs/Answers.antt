@@ -5,7 +5,7 @@ use Prim.Native.Nat.{ℕ, _+_, _*_}
 use lib.ListN.{length}
 use Rattle.model.specs.Words.{word}
 use Rattle.model.specs.Answer.{Answer, refused, done}
-use Rattle.model.specs.Whole.{whole}
+use Rattle.model.specs.Whole.{whole-told}
 use Rattle.model.specs.Crate.{Verdict, passed, stopped, crate-statements}
 use Rattle.model.specs.Promised.{Refused-at}
 use Rattle.model.specs.Assign.{statement-items, items-lent}
@@ -17,11 +17,12 @@ number (done c) = 0
 
 -- the call's answer and all that was lent, to the last word. Of a function that is accepted the counts of statements and entries
 -- are the first two words of the buffer.
-pub record Exported (Γ fn fs ws out fs′ ws′ out′ : List ℕ) (r : ℕ) : Type 0 where
-  pub answer : r ≡ number ((whole Γ fn (length fs) (length ws) (length out)) .answer)
-  pub forms : fs′ ≡ (whole Γ fn (length fs) (length ws) (length out)) .forms
-  pub whats : ws′ ≡ (whole Γ fn (length fs) (length ws) (length out)) .whats
-  pub record-is : out′ ≡ (whole Γ fn (length fs) (length ws) (length out)) .out
+pub record Exported (Γ fn fs ws out told fs′ ws′ out′ told′ : List ℕ) (r : ℕ) : Type 0 where
+  pub answer : r ≡ number ((whole-told Γ fn (length fs) (length ws) (length out) (length told)) .result .answer)
+  pub forms : fs′ ≡ (whole-told Γ fn (length fs) (length ws) (length out) (length told)) .result .forms
+  pub whats : ws′ ≡ (whole-told Γ fn (length fs) (length ws) (length out) (length told)) .result .whats
+  pub record-is : out′ ≡ (whole-told Γ fn (length fs) (length ws) (length out) (length told)) .result .out
+  pub numbers-are : told′ ≡ (whole-told Γ fn (length fs) (length ws) (length out) (length told)) .told
 
 -- the items of a list of statements, in a buffer of n words; their number is its first word
 pub record Exported-items (ws : List ℕ) (n : ℕ) (out′ : List ℕ) (r : ℕ) : Type 0 where

@@ -2,11 +2,14 @@
 // text, and the items of a list of statements.
 ghost use mathlib.Core.Path.{_≡_};
 ghost use mathlib.Core.Logic.{_≢_};
+ghost use mathlib.Core.Bool.{true};
 ghost use mathlib.Core.List.{_∷_};
+ghost use Prim.Native.Nat.{ℕ};
 ghost use lib.ListN.{length, take, drop};
 ghost use Rattle.model.specs.Words.{word};
 ghost use Rattle.model.specs.Crate.{records};
 ghost use Rattle.model.specs.Replay.{Replayed, Replayed-each};
+ghost use Rattle.model.specs.Told.{number-ok, Numbered};
 ghost use Rattle.model.specs.Promised.{One-of, whole-numbers, statement-numbers, Answered};
 ghost use Rattle.model.specs.Ghosts.{ghosts};
 ghost use Rattle.answer.specs.Said.{Printed};
@@ -18,8 +21,8 @@ use fold_unfold::ghost_statements;
 use whole_crate::Crate;
 use whole_crate::crate_statements;
 
-// 0, or the refusal. Accepted: the counts of statements and entries are the first two words of out. A refusal leaves zeros in all
-// that was lent.
+// 0, or the refusal. Accepted: the counts of statements and entries are the first two words of out, and told has a number for each statement. A
+// refusal leaves zeros in all that was lent.
 #[no_mangle]
 pub extern "C" fn exports_ghost_statements(
     types: &[u32],
@@ -27,12 +30,15 @@ pub extern "C" fn exports_ghost_statements(
     forms: &mut [u16],
     whats: &mut [u16],
     out: &mut [u32],
+    told: &mut [u32],
 ) -> u32
-    ensures { λ r. ⌜ Exported (now (types .entry)) (now (fun .entry)) (now (forms .entry)) (now (whats .entry)) (now (out .entry)) (now (forms .exit)) (now (whats .exit)) (now (out .exit)) r ⌝ }
+    ensures { λ r. ⌜ Exported (now (types .entry)) (now (fun .entry)) (now (forms .entry)) (now (whats .entry)) (now (out .entry)) (now (told .entry)) (now (forms .exit)) (now (whats .exit)) (now (out .exit)) (now (told .exit)) r ⌝ }
     ensures replayed { λ r. ⌜ (r ≡ 0 → Replayed (now (types .entry)) (now (fun .entry)) (now (out .exit))) ⌝ }
+    ensures began { λ r. ⌜ (r ≡ 0 → Numbered (now (types .entry)) (now (fun .entry)) (now (out .exit)) (now (told .exit))) ⌝ }
+    ensures small { λ r. ⌜ ((i : ℕ) → number-ok (word (now (told .exit)) i) ≡ true) ⌝ }
     ensures numbered { λ r. ⌜ One-of (0 ∷ whole-numbers) r ⌝ }
 {
-    let g = ghost_statements(types, fun, forms, whats, out);
+    let g = ghost_statements(types, fun, forms, whats, out, told);
     match g {
         Ghosts::Refused(n) => n,
         Ghosts::Done { .. } => 0,

@@ -26,5 +26,7 @@ pub mod Opening
 pub mod Stocked
 -- the second behind the first
 pub mod Both
--- the whole call's answer
+-- the whole call's answer, with its marks
 pub mod Answered
+-- and with its numbers
+pub mod Numbers

@@ -13,7 +13,6 @@ use Rattle.model.specs.Place.{At}
 use Rattle.model.specs.Function.{nlocals, nblocks, start, local-types}
 use Rattle.model.specs.Block.{entry-uses, entry-point}
 use Rattle.model.specs.Frame.{mark}
-use Rattle.model.specs.Record.{entries}
 use Rattle.model.specs.Body.{enter-uses, frame}
 use Rattle.base.specs.Tests.{clash}
 use Rattle.base.specs.Answer.{split-answer}
@@ -24,6 +23,7 @@ use Rattle.laws.specs.Sizes.{sizes-leaves}
 use Rattle.laws.specs.Valid.{leaves-valid}
 use Rattle.state.specs.Value.{value}
 use Rattle.state.specs.declared.nodes.State.{State}
+use Rattle.statements.specs.Marked.{marked}
 use Rattle.statements.specs.Kept.{begun, Kept}
 use Rattle.statements.specs.declared.Out.{Out}
 use Rattle.statements.specs.declared.Point.{Point}
@@ -95,7 +95,7 @@ told-spoken Γ fn false {out} ts T m l =
 told-spoken Γ fn true {out} {out′} {q} ts T m l =
     let U = T .told refl in
     let ls = mark (entry-point fn) ts in
-    let k : Kept (length ls) (entries (entry-point fn) ls) out′ q = rw zero-add at (U .kept 0 [] (kept-begun out)) in
+    let k : Kept (length ls) (marked (entry-point fn) ls) out′ q = rw zero-add at (U .kept 0 [] (kept-begun out)) in
     record { pen = U .recording; counted = U .counted; kept = λ z. rw l k }
 
 module _ {Γ fn : List ℕ} {recording : Bool} {out out′ : List ℕ} {p : Point} {r : After}

@@ -1,21 +1,22 @@
 -- The code's answer as model's.
 use mathlib.Core.Path.{_≡_}
 use mathlib.Core.Logic.{_≢_}
-use mathlib.Core.Bool.{cond}
+use mathlib.Core.Bool.{Bool, false, cond}
 use mathlib.Core.List.{List}
 use Prim.Native.Nat.{ℕ, _*_, _≤_}
 use lib.ListN.{length, replicate}
-use lib.Dec.{leb}
+use lib.Dec.{leb, ltb}
 use Rattle.model.specs.Answer.{Answer, refused, done}
 use Rattle.model.specs.Tree.{Forest}
 use Rattle.model.specs.Place.{At}
 use Rattle.model.specs.State.{most}
 use Rattle.model.specs.Block.{entry-point, join-points}
 use Rattle.model.specs.Passes.{Found}
-use Rattle.model.specs.Record.{entries, lent}
-use Rattle.model.specs.Whole.{passes, ghost-statements, shares, whole}
+use Rattle.model.specs.Record.{lent}
+use Rattle.model.specs.Whole.{passes, ghost-statements, shares, found, whole, whole-told}
 use Rattle.type_record.specs.Sizes.{Ready}
 use Rattle.statements.specs.Kept.{Counted, Kept}
+use Rattle.statements.specs.Marked.{marked, marked-record}
 use Rattle.statements.specs.declared.Out.{Out}
 use Rattle.state.specs.Given.{Accepted}
 use Rattle.arrival.specs.Shares.{Shared}
@@ -35,6 +36,31 @@ pub record Whole (Γ fn fs ws out fs′ ws′ out′ : List ℕ) (r : Ghosts) : 
   pub forms : fs′ ≡ (whole Γ fn (length fs) (length ws) (length out)) .forms
   pub whats : ws′ ≡ (whole Γ fn (length fs) (length ws) (length out)) .whats
   pub record-is : out′ ≡ (whole Γ fn (length fs) (length ws) (length out)) .out
+
+-- the record with its marks, in a lent array of n words; zeros after a refusal
+unfoldable pub marks-left : List ℕ → ℕ → Answer (Found Forest At) → List ℕ
+marks-left fn n (refused k) = replicate n 0
+marks-left fn n (done f) = lent n (marked-record (entry-point fn) (f .lines))
+
+-- the same while the numbers still stand in the record, as marks
+pub record Marked (Γ fn fs ws out fs′ ws′ out′ : List ℕ) (r : Ghosts) : Type 0 where
+  pub answer : r ≡ answer-of ((whole Γ fn (length fs) (length ws) (length out)) .answer)
+  pub forms : fs′ ≡ (whole Γ fn (length fs) (length ws) (length out)) .forms
+  pub whats : ws′ ≡ (whole Γ fn (length fs) (length ws) (length out)) .whats
+  pub marks : out′ ≡ marks-left fn (length out) (found Γ fn (length fs) (length ws) (length out))
+
+-- and with the numbers beside it (document 02, F-4)
+pub record Whole-told (Γ fn fs ws out told fs′ ws′ out′ told′ : List ℕ) (r : Ghosts) : Type 0 where
+  pub answer : r ≡ answer-of ((whole-told Γ fn (length fs) (length ws) (length out) (length told)) .result .answer)
+  pub forms : fs′ ≡ (whole-told Γ fn (length fs) (length ws) (length out) (length told)) .result .forms
+  pub whats : ws′ ≡ (whole-told Γ fn (length fs) (length ws) (length out) (length told)) .result .whats
+  pub record-is : out′ ≡ (whole-told Γ fn (length fs) (length ws) (length out) (length told)) .result .out
+  pub numbers-are : told′ ≡ (whole-told Γ fn (length fs) (length ws) (length out) (length told)) .told
+
+-- there are more statements than n
+abbrev pub over : ℕ → Ghosts → Bool
+over n (Refused k) = false
+over n (Done a b) = ltb n a
 
 -- zeros in all that was lent
 pub record All-zero (fs ws out : List ℕ) : Type 0 where
@@ -64,4 +90,4 @@ pub record Analysed (Γ fn fs ws out fs′ ws′ out′ : List ℕ) (r : Visit) 
   pub forms : (f : Found Forest At) → passes Γ fn ≡ done f → fs′ ≡ lent (length fs) (shares Γ fn (λ s. s .forms) (f .kept))
   pub whats : (f : Found Forest At) → passes Γ fn ≡ done f → ws′ ≡ lent (length ws) (shares Γ fn (λ s. s .whats) (f .kept))
   pub over : (f : Found Forest At) → passes Γ fn ≡ done f
-      → (o : Out) × (r ≡ Over o) × Counted out′ o × Kept (length (f .lines)) (entries (entry-point fn) (f .lines)) out′ o
+      → (o : Out) × (r ≡ Over o) × Counted out′ o × Kept (length (f .lines)) (marked (entry-point fn) (f .lines)) out′ o

@@ -8,8 +8,9 @@ use Rattle.model.specs.Place.{At}
 use Rattle.model.specs.Function.{nitems}
 use Rattle.model.specs.Block.{entry-point}
 use Rattle.model.specs.Frame.{Line}
-use Rattle.model.specs.Record.{Entry, point-entry, entries}
+use Rattle.model.specs.Record.{Entry, point-entry}
 use Rattle.statements.specs.Kept.{Alike, Puts}
+use Rattle.statements.specs.Marked.{marked}
 use Rattle.statements.specs.declared.Out.{Out}
 use Rattle.statements.specs.declared.Point.{Point}
 
@@ -30,7 +31,7 @@ pub record Says (out : List ℕ) (o : Out) (out′ : List ℕ) (o′ : Out) (es 
   pub told : o .recording ≡ true → Puts 1 out o out′ o′ es
   pub silent : o .recording ≡ false → (out′ ≡ out) × Alike o o′
 
--- lines are; the point may be another then
+-- lines are, with their marks; the point may be another then
 pub record Tells (fn : List ℕ) (out : List ℕ) (o : Out) (out′ : List ℕ) (o′ : Out) (ls : List (Line At)) : Type 0 where
-  pub told : o .recording ≡ true → Puts (length ls) out o out′ o′ (entries (entry-point fn) ls)
+  pub told : o .recording ≡ true → Puts (length ls) out o out′ o′ (marked (entry-point fn) ls)
   pub silent : o .recording ≡ false → (out′ ≡ out) × Alike o o′

@@ -10,6 +10,8 @@ ghost use Rattle.statements.specs.Kept.{begun, at-point, with-counts, po
 ghost use Rattle.statements.specs.Points.{Points};
 ghost use Rattle.statements.specs.Moved.{closed, cleared, Closable};
 
+pub mod numbers;
+
 // A point: an item, or the entry.
 pub struct Point {
     pub op: u32,
@@ -120,16 +122,24 @@ pub const FOLD: u32 = 15;
 
 pub const UNFOLD: u32 = 16;
 
-// One statement: its point, its verb, the first n items of its place.
-pub fn record(out: &mut [u32], o: Out, verb: u32, ops: &[u32], args: &[u32], n: usize) -> Out
+// One statement: its point, its verb with a mark, the first n items of its place.
+pub fn record(
+    out: &mut [u32],
+    o: Out,
+    verb: u32,
+    mark: u32,
+    ops: &[u32],
+    args: &[u32],
+    n: usize,
+) -> Out
     requires { ⌜ Counted (now out) o ⌝ }
     requires { ⌜ Both-long n (now ops) (now args) ⌝ }
-    ensures { λ r. ⌜ Puts 1 (now (out .entry)) o (now (out .exit)) r (point-of o ∷ (verb, 0) ∷ pairs (take n (now (ops .entry))) (take n (now (args .entry)))) ⌝ }
+    ensures { λ r. ⌜ Puts 1 (now (out .entry)) o (now (out .exit)) r (point-of o ∷ (verb, mark) ∷ pairs (take n (now (ops .entry))) (take n (now (args .entry)))) ⌝ }
     ensures at { λ r. ⌜ r .point ≡ o .point ⌝ }
 {
     let p = o.point;
     let a = put(out, o, p.op, p.arg);
-    let b = put(out, a, verb, 0);
+    let b = put(out, a, verb, mark);
     let c = put_items(out, b, ops, args, n);
     let k = out.len();
     if room(k) < c.entries {

@@ -1,6 +1,6 @@
 -- Bytes written into a text: one, a list's, some behind others; and a decimal number as its tenth's digits and a digit.
 use mathlib.Core.Path.{_≡_, refl, sym, _∙_, ap}
-use mathlib.Core.List.{List, [], _∷_, _++_, append-assoc}
+use mathlib.Core.List.{List, [], _∷_, _++_, append-assoc, append-nil}
 use Prim.Native.Nat.{ℕ, zero, suc, _+_, _/_, _%_, _^_, _≤_, _<_}
 use native.Mathlib.Nat.{pow-suc}
 use native.Mathlib.Numerals.{add-one}
@@ -13,6 +13,10 @@ use Rattle.model.specs.Ghosts.{decimal, number}
 use Rattle.base.specs.Tests.{split}
 use Rattle.records.specs.Digits.{decimal-one, decimal-more}
 use Rattle.text.specs.Printing.{Writes}
+
+-- none
+pub writes-none : (t : List ℕ) (at : ℕ) → Writes t t at at []
+writes-none t at = record { end = omega arith; long = refl; front = sym (append-nil (take at t)) }
 
 -- one byte
 pub writes-one : (t : List ℕ) (at c : ℕ) → at + 1 ≤ length t → Writes t (set t at c) at (at + 1) (c ∷ [])

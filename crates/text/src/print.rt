@@ -5,7 +5,8 @@ ghost use Prim.Native.Nat.{_+_, _*_, _<_, _≤_};
 ghost use lib.ListN.{length, drop};
 ghost use Rattle.model.specs.Words.{word};
 ghost use Rattle.model.specs.Ghosts.{number};
-ghost use Rattle.text.specs.Printing.{Writes, entry-text, point, ends, first-text, Whole, entries-of, Prints, Refuses};
+ghost use Rattle.records.specs.Entries.{Whole, entries-of};
+ghost use Rattle.text.specs.Printing.{Writes, entry-text, point, ends, verb-now, told-bytes, Few-digits, Moves, kept-for, Prints, Refuses};
 use mir::items::DEREF;
 use mir::items::DOWNCAST;
 use mir::items::FIELD;
@@ -17,6 +18,9 @@ use statements::FOLD;
 use type_record::record::wide;
 
 const NEWLINE: u8 = 10;
+
+// The number of a statement that is collected.
+const DASH: u32 = 255;
 
 fn put(text: &mut [u8], at: usize, c: u8) -> usize
     requires { ⌜ at + 1 ≤ length (now text) ⌝ }
@@ -100,35 +104,91 @@ fn ends(out: &[u32], k: usize) -> bool
     is_point(out[2 + k])
 }
 
-// Entry k, and a newline if its line ends there.
-fn print_entry(out: &[u32], k: usize, text: &mut [u8], at: usize) -> usize
-    requires { ⌜ Whole (now out) ⌝ }
-    requires { ⌜ k < word (now out) 1 ⌝ }
-    requires { ⌜ at + 14 ≤ length (now text) ⌝ }
-    ensures { λ r. ⌜ Writes (now (text .entry)) (now (text .exit)) at r (first-text (drop k (entries-of (now (out .entry))))) ⌝ }
-{
-    let e = wide(out[1]);
-    let a = put_entry(text, at, out[2 + k], out[2 + e + k]);
-    if ends(out, k + 1) {
-        return put(text, a, NEWLINE);
-    }
-    a
+// Where printing has come to: the next byte, how many lines have ended, the op of the line's verb, or 0 before it.
+pub struct Pen {
+    pub at: usize,
+    pub line: usize,
+    pub verb: u32,
 }
 
-// The lines of a statement record.
-pub fn print_record(out: &[u32], text: &mut [u8]) -> usize
+// The line's verb behind an entry with this op.
+fn verb_now(verb: u32, op: u32) -> u32
+    ensures { λ r. ⌜ r ≡ verb-now verb op ⌝ }
+{
+    if FOLD <= op { op } else { verb }
+}
+
+// The number of a line, or 0 if there is none.
+fn number_of(told: &[u32], line: usize) -> u32
+    ensures { λ r. ⌜ r ≡ word (now (told .entry)) line ⌝ }
+{
+    if line < told.len() { told[line] } else { 0 }
+}
+
+// What is told at the end of a line with this verb.
+fn put_told(text: &mut [u8], at: usize, verb: u32, n: u32) -> usize
+    requires { ⌜ at + kept-for verb ≤ length (now text) ⌝ }
+    requires { ⌜ n < 1000 ⌝ }
+    ensures { λ r. ⌜ Writes (now (text .entry)) (now (text .exit)) at r (told-bytes verb n) ⌝ }
+{
+    if verb == 0 {
+        return at;
+    }
+    if n == DASH {
+        return put_all(text, at, b" -");
+    }
+    if verb == FOLD {
+        return at;
+    }
+    put_numbered(text, at, b" ", n)
+}
+
+// Entry k; if its line ends there, what is told and a newline.
+fn print_entry(out: &[u32], told: &[u32], k: usize, text: &mut [u8], p: Pen) -> Pen
     requires { ⌜ Whole (now out) ⌝ }
-    requires { ⌜ 14 * word (now out) 1 ≤ length (now text) ⌝ }
-    ensures { λ r. ⌜ Prints (now (out .entry)) (now (text .entry)) (now (text .exit)) r ⌝ }
+    requires { ⌜ k < word (now out) 1 ⌝ }
+    requires { ⌜ p .at + kept-for (p .verb) + 14 ≤ length (now text) ⌝ }
+    requires { ⌜ Few-digits (now told) ⌝ }
+    requires { ⌜ p .line ≤ k ⌝ }
+    ensures { λ r. ⌜ Moves (now (told .entry)) (now (text .entry)) (now (text .exit)) p r (drop k (entries-of (now (out .entry)))) ⌝ }
 {
     let e = wide(out[1]);
-    let mut at = 0;
+    let a = put_entry(text, p.at, out[2 + k], out[2 + e + k]);
+    let v = verb_now(p.verb, out[2 + k]);
+    if !ends(out, k + 1) {
+        return Pen {
+            at: a,
+            line: p.line,
+            verb: v,
+        };
+    }
+    let b = put_told(text, a, v, number_of(told, p.line));
+    Pen {
+        at: put(text, b, NEWLINE),
+        line: p.line + 1,
+        verb: 0,
+    }
+}
+
+// The lines of a statement record, each with its number.
+pub fn print_record(out: &[u32], told: &[u32], text: &mut [u8]) -> usize
+    requires { ⌜ Whole (now out) ⌝ }
+    requires { ⌜ 14 * word (now out) 1 ≤ length (now text) ⌝ }
+    requires { ⌜ Few-digits (now told) ⌝ }
+    ensures { λ r. ⌜ Prints (now (out .entry)) (now (told .entry)) (now (text .entry)) (now (text .exit)) r ⌝ }
+{
+    let e = wide(out[1]);
+    let mut p = Pen {
+        at: 0,
+        line: 0,
+        verb: 0,
+    };
     let mut k = 0;
     while k < e {
-        at = print_entry(out, k, text, at);
+        p = print_entry(out, told, k, text, p);
         k += 1;
     }
-    at
+    p.at
 }
 
 // A refusal as text.

@@ -8,14 +8,15 @@ use mathlib.Core.Option.{some}
 use Prim.Native.Nat.{ℕ, suc, pred, _+_, _-_, _<_, _≤_}
 use native.Mathlib.Omega.{arith}
 use lib.ListN.{length, length-append, replicate-append-replicate}
-use borrow.Author.Tests.{ne-eqb}
+use lib.Dec.{ltb}
+use borrow.Author.Tests.{ne-eqb, ltb-true, ltb-false}
 use Rattle.model.specs.Words.{word}
 use Rattle.model.specs.Answer.{Answer, refused, done, _>>=_}
 use Rattle.model.specs.Types.{kids}
 use Rattle.model.specs.Tree.{Tree, leaf, node, size, sizes, type, leaves}
 use Rattle.model.specs.State.{Code, codes}
 use Rattle.model.specs.Place.{Elem, deref, field, downcast, index, Place, Spot, stops, no-index}
-use Rattle.model.specs.Walk.{enter, opening, opened, inside, walk, reached, changed}
+use Rattle.model.specs.Walk.{enter, opening, opened, inside, walk, reached, changed, passed}
 use Rattle.model.specs.Block.{elem-of}
 use Rattle.model.specs.Calls.{spot-of}
 use Rattle.base.specs.Tests.{split}
@@ -32,7 +33,7 @@ use Rattle.walk.specs.declared.step.Fresh.{Fresh}
 use Rattle.walk.specs.declared.step.Opened.the-variants.{To, Refused}
 use Rattle.walk.specs.declared.along.Walk.{Walk}
 use Rattle.walk.proofs.Frames.{zeros, codess-leaves, sizes-leaves}
-use Rattle.walk.proofs.Ways.{no-index-first, route-next}
+use Rattle.walk.proofs.Ways.{no-index-first, route-next, length-route}
 use Rattle.walk.proofs.Growing.{Sprig, grown, sprig-to, Grown, Sprung}
 use Rattle.walk.proofs.Inks.{length-filled}
 use Rattle.walk.proofs.Places.{rest-place}
@@ -128,6 +129,24 @@ changed-folded Γ (field i) p h t = refl
 changed-folded Γ (downcast v) p h t = refl
 changed-folded Γ index p h t = absurd (true≢false h)
 
+-- it passes no element of a place that isn't walked
+passed-stops : (Γ : List ℕ) (p : Place) (s : Tree) → stops p ≡ true → passed Γ p s ≡ 0
+unfolding passed
+passed-stops Γ [] s h = refl
+passed-stops Γ (deref ∷ p) s h = absurd (true≢false (sym h))
+passed-stops Γ (field i ∷ p) s h = absurd (true≢false (sym h))
+passed-stops Γ (downcast v ∷ p) s h = absurd (true≢false (sym h))
+passed-stops Γ (index ∷ p) s h = refl
+
+-- nor of one walked from a folded node
+passed-folded : (Γ : List ℕ) (p : Place) (t : ℕ) → passed Γ p (leaf t) ≡ 0
+unfolding passed
+passed-folded Γ [] t = refl
+passed-folded Γ (deref ∷ p) t = refl
+passed-folded Γ (field i ∷ p) t = refl
+passed-folded Γ (downcast v ∷ p) t = refl
+passed-folded Γ (index ∷ p) t = refl
+
 -- the walk of p from x, at i, goes through open nodes alone to the tree z, at n
 pub record Stays (Γ : List ℕ) (p : Place) (i : ℕ) (x : Tree) (n : ℕ) (z : Tree) : Type 0 where
   pub frame : Frame Γ (codes Γ)
@@ -185,6 +204,19 @@ module _ {Γ fs ws ops args : List ℕ} {i : ℕ} {q : Spot} {x : Tree} {w : Wal
       ∙ m .way .changes
       ∙ ap₂ (changed Γ) (rest-cons ops args (w .passed) (omega (arith, S .within))) (S .passing .folded l)
       ∙ changed-folded Γ e (rest ops args (w .passed + 1)) (no-index-first e (route ops args (w .passed + 1) (w .walked - (w .passed + 1))) p) (w .typ)
+
+  -- it has passed as many elements as items lead through open nodes, which count the root
+  pub site-passed : w .passed ≡ suc (passed Γ (q .place) x)
+  site-passed =
+      let a : ℕ = w .passed in
+      let long : length (rest ops args 1) ≡ length ops - 1 = length-route ops args 1 (length ops - 1) in
+      let left : length (rest ops args a) ≡ length ops - a = length-route ops args a (length ops - a) in
+      let none : passed Γ (rest ops args a) (m .tree) ≡ 0 = split (ltb a (w .walked))
+      (λ l. ap (passed Γ (rest ops args a)) (S .passing .folded (ltb-true a (w .walked) l)) ∙ passed-folded Γ (rest ops args a) (w .typ))
+      (λ l.
+      let e : a ≡ w .walked = omega (arith, ltb-false a (w .walked) l, S .passing .most) in
+      passed-stops Γ (rest ops args a) (m .tree) (ap (λ (n : ℕ). stops (rest ops args n)) e ∙ S .last)) in
+      omega (arith, ap (λ (r : Place). passed Γ r x) here, m .way .passes, S .passing .least, S .passing .most, S .within)
 
   -- or not at all
   pub site-stays : w .passed ≡ w .walked → Stays Γ (q .place) i x (w .node) (S .passing .midway .tree)

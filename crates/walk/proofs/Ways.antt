@@ -12,7 +12,7 @@ use Rattle.model.specs.Block.{elem-of}
 use Rattle.model.specs.Answer.{Answer, done, _>>=_}
 use Rattle.model.specs.Tree.{Tree, unfolded}
 use Rattle.model.specs.Place.{Elem, deref, field, downcast, index, Place, stops, no-index}
-use Rattle.model.specs.Walk.{inside, step, walk, next, reached, changed}
+use Rattle.model.specs.Walk.{inside, step, walk, next, reached, changed, passed}
 use Rattle.base.specs.Answer.{bind-done, bind-bind}
 use Rattle.walk.specs.Way.{route, acts, Stepped, Way}
 use Rattle.walk.proofs.Frames.{top, within}
@@ -35,6 +35,14 @@ module _ (Γ : List ℕ) where
   changed-next (downcast v) q h x o = rw o
   changed-next index q h x o = absurd (true≢false h)
 
+  -- and passes one element
+  pub passed-next : (e : Elem) (q : Place) → stops (e ∷ []) ≡ false → (x : Tree) → unfolded x ≡ true → passed Γ (e ∷ q) x ≡ suc (passed Γ q (next Γ e x))
+  unfolding passed
+  passed-next deref q h x o = rw o refl
+  passed-next (field i) q h x o = rw o refl
+  passed-next (downcast v) q h x o = rw o refl
+  passed-next index q h x o = absurd (true≢false h)
+
   -- and the walk goes on where it leads
   pub reached-next : (e : Elem) (q : Place) → stops (e ∷ []) ≡ false → (x : Tree) → reached Γ (e ∷ q) x ≡ reached Γ q (next Γ e x)
   unfolding reached
@@ -46,7 +54,7 @@ module _ (Γ : List ℕ) where
 module _ {Γ : List ℕ} where
   -- no step
   unfoldable pub way-here : {p : Place} {x : Tree} → Way Γ p x p x
-  way-here {p} {x} = record { frame = top Γ; whole = refl; leads = λ act. sym (bind-done (walk Γ act p x)); changes = refl; reaches = refl }
+  way-here {p} {x} = record { frame = top Γ; whole = refl; leads = λ act. sym (bind-done (walk Γ act p x)); changes = refl; reaches = refl; passes = refl }
 
   -- one way after another
   unfoldable pub way-then : {p q r : Place} {x y z : Tree} → Way Γ p x q y → Way Γ q y r z → Way Γ p x r z
@@ -60,6 +68,7 @@ module _ {Γ : List ℕ} where
             ∙ bind-bind (walk Γ act r z) (λ u. done (b .frame .plug u)) (λ u. done (a .frame .plug u));
         changes = a .changes ∙ b .changes;
         reaches = a .reaches ∙ b .reaches;
+        passes = omega (arith, a .passes, b .passes);
       }
 
   -- a step
@@ -72,6 +81,7 @@ module _ {Γ : List ℕ} where
         leads = λ act. ap (λ (r : Place). walk Γ act r x) d ∙ walk-acts Γ e q s act x ∙ h .leads (walk Γ act q);
         changes = ap (λ (r : Place). changed Γ r x) d ∙ changed-next Γ e q s x (h .was-open) ∙ ap (changed Γ q) (h .ends);
         reaches = ap (λ (r : Place). reached Γ r x) d ∙ reached-next Γ e q s x ∙ ap (reached Γ q) (h .ends);
+        passes = omega (arith, ap (λ (r : Place). passed Γ r x) d, passed-next Γ e q s x (h .was-open), ap (passed Γ q) (h .ends), ap length d);
       }
 
 -- a place with no index begins with a step

@@ -11,7 +11,7 @@ use Rattle.model.specs.Types.{ntypes}
 use Rattle.model.specs.Tree.{Tree, unfolded}
 use Rattle.model.specs.State.{codes}
 use Rattle.model.specs.Place.{Elem, deref, field, downcast, index, Place}
-use Rattle.model.specs.Walk.{enter, opening, inside, walk, next, reached, changed}
+use Rattle.model.specs.Walk.{enter, opening, inside, walk, next, reached, changed, passed}
 use Rattle.model.specs.Block.{elem-of}
 use Rattle.records.specs.Here.{Coded}
 use Rattle.walk.specs.Frame.{Frame}
@@ -58,3 +58,4 @@ pub record Way (Γ : List ℕ) (p : Place) (x : Tree) (q : Place) (y : Tree) : T
   pub leads : (act : Tree → Answer Tree) → walk Γ act p x ≡ walk Γ act q y >>= λ z. done (frame .plug z)
   pub changes : changed Γ p x ≡ changed Γ q y
   pub reaches : reached Γ p x ≡ reached Γ q y
+  pub passes : passed Γ p x + length q ≡ passed Γ q y + length p  -- the elements between are passed

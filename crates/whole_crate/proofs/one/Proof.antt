@@ -1,7 +1,8 @@
 -- `whole_crate::one` meets its contract. Assumes nothing.
 use borrow.Author.Needs.{needs}
 use mathlib.Core.Path.{refl}
-use Rattle.fold_unfold.proofs.Answered.{own-zeros, whole-same}
+use Rattle.fold_unfold.proofs.Answered.{own-zeros}
+use Rattle.fold_unfold.proofs.Numbers.{whole-same}
 use Rattle.whole_crate.proofs.Parts.{part-blank, call-alone}
 use Rattle.whole_crate.proofs.one.Statement.{statement}
 use Rattle.whole_crate.proofs.one.Tie as tie

@@ -6,11 +6,16 @@ use mathlib.Core.Option.{some}
 use Prim.Native.Nat.{ℕ}
 use native.Mathlib.Omega.{arith}
 use Rattle.model.specs.Words.{word}
+use Rattle.model.specs.Answer.{done}
 use Rattle.model.specs.Tree.{Forest}
+use Rattle.model.specs.Place.{At}
 use Rattle.model.specs.Collect.{collects}
 use Rattle.model.specs.Function.{local-types}
 use Rattle.model.specs.Block.{entry-point}
 use Rattle.model.specs.Record.{point-entry}
+use Rattle.base.specs.Answer.{good-at}
+use Rattle.base.specs.Each.{Each}
+use Rattle.laws.specs.Lifted.{Dashed, collects-dashed}
 use Rattle.records.specs.Here.{Holds}
 use Rattle.state.specs.Value.{value}
 use Rattle.statements.specs.Kept.{at-point}
@@ -118,11 +123,15 @@ here : (c : tie.After-collect-fold-unfolds)
     (c .before .before .point-of .result .op, c .before .before .point-of .result .arg) ≡ point-entry (entry-point (a .fun .now)) (point (a .fun .now) (a .j .entry) (a .j .item))
 here c = let s = start (load c) in c .before .before .point-of .ensures (s .args .fun .now) (s .pre .0 .formed .laid .most-items) (s .pre .1 .1 .1 .1 .0)
 
+-- what is collected tells a dash
+dashed : (c : tie.After-collect-fold-unfolds) (S E : Forest) (ts : List At) → collects ((start (load c)) .args .types .now) E S ≡ done ts → Each Dashed ts
+dashed c S E ts e = good-at (collects-dashed ((start (load c)) .args .types .now) E S) e
+
 returns : tie.Need-returns
 returns c =
     let w : tie.After-visited = search in
     let k : tie.After-collect-fold-unfolds = search in
-    (λ S E v h. reconciles-over (here k) (k .collect-fold-unfolds .kept .1 .1 .1 .1 .1 .0) (told k S E v h) (c .before .before .before .a2 .given .1) (w .visited .ensures) (rw (c .if1 .taken) refl), refl)
+    (λ S E v h. reconciles-over (here k) (dashed k S E) (k .collect-fold-unfolds .kept .1 .1 .1 .1 .1 .0) (told k S E v h) (c .before .before .before .a2 .given .1) (w .visited .ensures) (rw (c .if1 .taken) refl), refl)
 
 insert-requires : tie.Need-insert-requires
 insert-requires c κs =
@@ -135,7 +144,7 @@ same-length-2 c = search needs
 returns-2 : tie.Need-returns-2
 returns-2 c =
     let k : tie.After-collect-fold-unfolds = search in
-    (λ S E v h. reconciles-refused (here k) (k .collect-fold-unfolds .kept .1 .1 .1 .1 .1 .0) (told k S E v h) (c .before .a .given .1), refl)
+    (λ S E v h. reconciles-refused (here k) (dashed k S E) (k .collect-fold-unfolds .kept .1 .1 .1 .1 .1 .0) (told k S E v h) (c .before .a .given .1), refl)
 
 same-length-3 : tie.Need-same-length-3
 same-length-3 c = search needs
@@ -147,7 +156,7 @@ returns-3 : tie.Need-returns-3
 returns-3 c =
     let w : tie.After-visited = search in
     let k : tie.After-collect-fold-unfolds = search in (
-      λ S E v h. reconciles-over (here k) (k .collect-fold-unfolds .kept .1 .1 .1 .1 .1 .0) (told k S E v h) (c .before .before .before .before .before .before .before .a2 .given .1) (w .visited .ensures) (rw (c .before .before .before .before .if1 .left) (c .before .before .insert .ensures)),
+      λ S E v h. reconciles-over (here k) (dashed k S E) (k .collect-fold-unfolds .kept .1 .1 .1 .1 .1 .0) (told k S E v h) (c .before .before .before .before .before .before .before .a2 .given .1) (w .visited .ensures) (rw (c .before .before .before .before .if1 .left) (c .before .before .insert .ensures)),
       c .before .before .insert .kept .0,
     )
 

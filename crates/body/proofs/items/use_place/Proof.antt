@@ -18,7 +18,7 @@ use Rattle.blocks.proofs.Spots.{used-in, ops-long}
 use Rattle.statements.specs.Points.{point}
 use Rattle.body.proofs.Places.{place-spot, place-locals, place-given}
 use Rattle.body.proofs.Passing.{passes-alike}
-use Rattle.body.proofs.Placed.{placed-short, placed-refused, placed-nothing, placed-fold, placed-unfold}
+use Rattle.body.proofs.Placed.{placed-short, placed-small, placed-refused, placed-nothing, placed-fold, placed-unfold}
 use Rattle.body.proofs.items.use_place.Statement.{statement}
 use Rattle.body.proofs.items.use_place.Tie as tie
 
@@ -119,7 +119,7 @@ tell-requires c κs =
     let m : tie.After-local-types = search in
     let (A, (l, (u, (S, C)))) = start m .pre in
     let k = spot-args _ _ _ (place-spot A l u refl _ _ _ (m .local-types .ensures) (ops-are m) (args-are m)) in
-    (counted-alike (alike m) C, (omega arith, omega arith))
+    (counted-alike (alike m) C, ((omega arith, omega arith), omega arith))
 
 enum-known-a-2 : tie.Need-enum-known-a-2
 enum-known-a-2 c = search needs
@@ -147,7 +147,8 @@ tell-requires-2 : tie.Need-tell-requires-2
 tell-requires-2 c κs =
     let j : tie.After-projection = search in
     let m : tie.After-local-types = search in
-    (counted-alike (alike m) (start m .pre .1 .1 .1 .1), short c)
+    let (A, (l, (u, (S, C)))) = start m .pre in
+    (counted-alike (alike m) C, (short c, placed-small A (start m .args .i) l u _ _ _ (m .local-types .ensures) (ops-are m) (args-are m) (j .projection .ensures) (S .holds) (c .before .before .a2 .given .1)))
 
 same-length : tie.Need-same-length
 same-length c = search needs

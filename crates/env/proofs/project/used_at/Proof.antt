@@ -12,6 +12,9 @@ use Rattle.env.proofs.project.used_at.Tie as tie
 abbrev start : tie.After-f → tie.Start
 start f = search
 
+sub-passed : tie.Need-sub-passed
+sub-passed c = let s : tie.Start = search in omega (arith, s .pre .1 .site .passing .least)
+
 add-if2 : tie.Need-add-if2
 add-if2 c =
     let f : tie.After-f = search in
@@ -32,8 +35,8 @@ open-nodes-requires c κs =
     let s = start f in
     (s .pre .0, unfold-opens (ready-typed (s .pre .0)) (s .pre .1) (y .if1 .taken) (n .if2 .left))
 
-sub-t14 : tie.Need-sub-t14
-sub-t14 c =
+sub-t15 : tie.Need-sub-t15
+sub-t15 c =
     let y : tie.Then1 = search in
     let f : tie.After-f = search in
     omega (arith, y .if1 .taken, start f .pre .1 .site .passing .least)
@@ -90,16 +93,18 @@ returns-4 : tie.Need-returns-4
 returns-4 c =
     let n : tie.Else1 = search in
     let f : tie.After-f = search in
-    λ d k. nothing-projects (ready-typed (start f .pre .0)) d (omega (arith, n .if1 .left, d .site .passing .most)) (c .if3 .left)
+    let z : tie.Else3 = search in
+    λ d k. nothing-projects (ready-typed (start f .pre .0)) d (omega (arith, n .if1 .left, d .site .passing .most)) (z .if3 .left)
 
 pub used-at-spec : {M : Type 1} → statement M
 used-at-spec =
     tie.close
     (tie.spec
+    sub-passed
     add-if2
     returns
     open-nodes-requires
-    sub-t14
+    sub-t15
     same-length
     same-length-2
     returns-2

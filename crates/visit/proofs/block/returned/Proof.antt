@@ -10,6 +10,7 @@ use Rattle.model.specs.Collect.{folds-at-ret}
 use Rattle.model.specs.Function.{nargs, local-types}
 use Rattle.base.specs.Tests.{clash}
 use Rattle.base.specs.Function.{length-local-types}
+use Rattle.laws.specs.Lifted.{folds-at-ret-dashed}
 use Rattle.records.specs.Here.{Holds}
 use Rattle.blocks.proofs.Spots.{formed-accepted}
 use Rattle.state.specs.Value.{value, state-in}
@@ -86,7 +87,7 @@ returns c = λ E H.
     let new = g .collect-folds-at-ret .last .1 .1 .1 .1 .1 .1 .0 in
     let Q = subst₂ (λ (k : ℕ) (v : Out). Puts (length (folds-at-ret (z .args .types .now) k E)) (z .args .out .now) v new (g .collect-folds-at-ret .result) (lines-of (point-of v) (root 0) (folds-at-ret (z .args .types .now) k E)))
     (counted u .nargs .ensures) (u .at-point .ensures) P in
-    puts-tells (z .args .i) (folds-at-ret (z .args .types .now) (nargs (z .args .fun .now)) E) (taken g .if1 .taken) (place u .point-of .ensures (z .args .fun .now) (p .0 .formed .laid .most-items) (p .1 .0))
+    puts-tells (z .args .i) (folds-at-ret (z .args .types .now) (nargs (z .args .fun .now)) E) (folds-at-ret-dashed (z .args .types .now) (nargs (z .args .fun .now)) E) (taken g .if1 .taken) (place u .point-of .ensures (z .args .fun .now) (p .0 .formed .laid .most-items) (p .1 .0))
     (puts-alike (alike-at _ _) Q)
 
 returns-2 : tie.Need-returns-2
