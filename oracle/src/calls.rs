@@ -1,7 +1,7 @@
 //! The public calls, on records. Each tests its own input in document 01's order: types (1),
 //! function (2), local types and states (3), places (4), store (10), then the run's 5 to 9, and
-//! a short statement buffer (10) last. A refusal leaves states as they came and zeroes what is
-//! lent.
+//! last a short statement buffer or a short array for its numbers (10). A refusal leaves states as
+//! they came and zeroes what is lent.
 
 use std::collections::HashMap;
 
@@ -20,18 +20,21 @@ use crate::{
 /// Counts of statements and entries.
 pub type Counts = (usize, usize);
 
-/// The statements of a whole function. Each join point's share of the store is left with the
-/// block's final state, or zeros if none arrived; the rest of store and output is zero.
+/// The statements of a whole function, and beside their record, in `told`, a number for each. Each
+/// join point's share of the store is left with the block's final state, or zeros if none arrived;
+/// the rest of all that is lent is zero.
 pub fn ghost_statements(
     types: &[u32],
     function: &[u32],
     store_forms: &mut [u16],
     store_whats: &mut [u16],
     out: &mut [u32],
+    told: &mut [u32],
 ) -> Result<Counts, Refusal> {
     store_forms.fill(0);
     store_whats.fill(0);
     out.fill(0);
+    told.fill(0);
     let genv = Types::read(types)?;
     let body = Body::read(&genv, function)?;
     body.check_places()?;
@@ -42,7 +45,11 @@ pub fn ghost_statements(
     let mut bb_envs = HashMap::new();
     let mut stmts = GhostStatements::default();
     add_ghost_statements(&mut stmts, &genv, &body, &mut bb_envs)?;
+    let numbers = stmts.numbers();
+    // Found last, as a short buffer is: both are 10, so that no order shows.
+    let told = told.get_mut(..numbers.len()).ok_or(Refusal::ShortStore)?;
     let counts = stmts.write_record(out)?;
+    told.copy_from_slice(&numbers);
     write_shares(&body, &bb_envs, store_forms, store_whats);
     Ok(counts)
 }
@@ -63,14 +70,14 @@ fn write_shares(
     }
 }
 
-/// Walks a place and folds what it reaches.
+/// Walks a place and folds what it reaches. Gives the walk's number too, whatever the answer.
 pub fn projection(
     types: &[u32],
     locals: &[u32],
     state: &State,
     place_ops: &[u32],
     place_args: &[u32],
-) -> (Result<ProjResult, Refusal>, State) {
+) -> (Result<(ProjResult, usize), Refusal>, State) {
     on_place(types, locals, state, place_ops, place_args, Role::Used, |env, genv, place| {
         env.projection(genv, place)
     })

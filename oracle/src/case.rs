@@ -8,14 +8,16 @@
 //! ops W..  args W..           the items of a place
 //! variant V                   of downcast;  in_mut_ref 0|1 of join_nodes
 //! arg_count A                 of collect_folds_at_ret
-//! room F W O                  lengths of the lent arrays: store forms, store whats, output;
-//!                             of a collecting call and of statement_items: O alone
+//! room F W O N                lengths of the lent arrays: store forms, store whats, output, and the
+//!                             numbers beside it; of crate_statements no N, of a collecting call and
+//!                             of statement_items O alone
 //! list W..                    a list of statements, of statement_items; count and records, of
 //!                             crate_statements
 //! input B..                   the bytes on standard input of `ghosts`
 //! answer accepted W..  or  answer refused N
 //! position P                  of crate_statements: the function refused, counted from 1, or 0
 //! out W..                     the output
+//! told W..                    of whole: the numbers beside it
 //! share_forms J W..  share_whats J W..  the share of the J-th join point
 //! after_count, after_forms, after_whats (and with a 2)   the state that a call gives
 //! line TEXT                   a line that `ghosts` prints
@@ -24,10 +26,11 @@
 //!
 //! The words after `accepted`: of `function` the number of join points; of `whole` and the
 //! collecting calls statements and entries; of `statement_items` the number of items; of `projection`
-//! 0 nothing, 1 fold, or 2 and the number of elements to record; of `join` the flag; of `join_nodes`
-//! both flags; of `crate_statements` statements and entries of each function.
-//! State arrays, `out` and shares are written without the zeros at their end, and a share that
-//! is all zero isn't written. After a refusal all that was lent is zero, and states are as they
+//! 0 nothing, 1 fold, or 2 and the number of elements to record, and last the walk's number; of
+//! `join` the flag; of `join_nodes` both flags; of `crate_statements` statements and entries of each
+//! function.
+//! State arrays, `out`, `told` and shares are written without the zeros at their end, and a share
+//! that is all zero isn't written. After a refusal all that was lent is zero, and states are as they
 //! came.
 
 use std::fmt::{self, Display, Write};
@@ -156,7 +159,7 @@ impl Case {
         }
     }
 
-    pub fn whole(types: Vec<u32>, function: Vec<u32>, room: [usize; 3]) -> Case {
+    pub fn whole(types: Vec<u32>, function: Vec<u32>, room: [usize; 4]) -> Case {
         Case { types, function, room: room.to_vec(), ..Case::new(Call::Whole) }
     }
 
@@ -235,14 +238,14 @@ impl Case {
     }
 
     fn answer_whole(&self) -> Answer {
-        let (result, lines) = self.answer_stored(|forms, whats, out| {
-            calls::ghost_statements(&self.types, &self.function, forms, whats, out)
+        let (result, lines) = self.answer_stored(|forms, whats, out, told| {
+            calls::ghost_statements(&self.types, &self.function, forms, whats, out, told)
         });
         Answer { result: result.map(counted), lines }
     }
 
     fn answer_crate(&self) -> Answer {
-        let (result, mut lines) = self.answer_stored(|forms, whats, out| {
+        let (result, mut lines) = self.answer_stored(|forms, whats, out, _| {
             crate_statements(&self.types, &self.list, forms, whats, out)
         });
         let position = result.as_ref().err().map_or(0, |&(_, position)| position);
@@ -251,19 +254,24 @@ impl Case {
         Answer { result: result.map_err(|(refusal, _)| refusal), lines }
     }
 
-    /// Of a call to which store and output are lent. They hold other than zeros at first, so that what
-    /// isn't written shows.
+    /// Of a call to which store and output are lent, and perhaps an array for the numbers. They hold
+    /// other than zeros at first, so that what isn't written shows.
     fn answer_stored<A, E>(
         &self,
-        call: impl FnOnce(&mut [u16], &mut [u16], &mut [u32]) -> Result<A, E>,
+        call: impl FnOnce(&mut [u16], &mut [u16], &mut [u32], &mut [u32]) -> Result<A, E>,
     ) -> (Result<A, E>, String) {
         let mut forms = vec![0xaaaa; self.room[0]];
         let mut whats = vec![0xaaaa; self.room[1]];
         let mut out = vec![0xaaaa_aaaa; self.room[2]];
-        let result = call(&mut forms, &mut whats, &mut out);
+        let lent = self.room.get(3);
+        let mut told = vec![0xaaaa_aaaa; lent.copied().unwrap_or(0)];
+        let result = call(&mut forms, &mut whats, &mut out, &mut told);
         let mut lines = String::new();
         if result.is_ok() {
             push_line(&mut lines, "out", trimmed(&out));
+            if lent.is_some() {
+                push_line(&mut lines, "told", trimmed(&told));
+            }
             for (name, store) in [("share_forms", &forms), ("share_whats", &whats)] {
                 for (share, entries) in store.chunks(MAX_NODES).enumerate() {
                     if !trimmed(entries).is_empty() {
@@ -407,11 +415,11 @@ fn with_state(result: Result<Vec<usize>, Refusal>, after: &State) -> Answer {
     Answer { result, lines }
 }
 
-fn projection_words(answer: ProjResult) -> Vec<usize> {
+fn projection_words((answer, passed): (ProjResult, usize)) -> Vec<usize> {
     match answer {
-        ProjResult::None => vec![0],
-        ProjResult::Fold => vec![1],
-        ProjResult::Unfold(len) => vec![2, len],
+        ProjResult::None => vec![0, passed],
+        ProjResult::Fold => vec![1, passed],
+        ProjResult::Unfold(len) => vec![2, len, passed],
     }
 }
 

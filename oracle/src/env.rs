@@ -16,6 +16,28 @@ pub struct Env {
     pub map: Vec<PlaceNode>,
 }
 
+/// Where a walk came to.
+pub struct Walk<'a> {
+    /// The node reached.
+    pub node: &'a mut PlaceNode,
+    /// How many elements were walked.
+    pub walked: usize,
+    /// The step that first changed a tree, if one did.
+    changed_at: Option<usize>,
+}
+
+impl Walk<'_> {
+    pub fn modified(&self) -> Modified {
+        self.changed_at.is_some()
+    }
+
+    /// How many elements it had passed before the step that first changed a tree, and the walked length
+    /// where none did (document 02, F-4).
+    pub fn passed(&self) -> usize {
+        self.changed_at.unwrap_or(self.walked)
+    }
+}
+
 /// The answer of a projection. Unfold says how many elements the place to record has: those
 /// that were walked, without the last.
 #[derive(Clone, Copy, PartialEq, Eq, Debug)]
@@ -31,19 +53,26 @@ impl Env {
         Env { map: local_types.iter().map(|&ty| PlaceNode::Ty(ty)).collect() }
     }
 
-    pub fn projection(&mut self, genv: &Types, place: &Place) -> Result<ProjResult, Refusal> {
-        let (node, walked, modified) = self.ensure_unfolded(genv, place)?;
-        if modified {
+    /// The answer, and the walk's number.
+    pub fn projection(
+        &mut self,
+        genv: &Types,
+        place: &Place,
+    ) -> Result<(ProjResult, usize), Refusal> {
+        let walk = self.ensure_unfolded(genv, place)?;
+        let (walked, passed) = (walk.walked, walk.passed());
+        let answer = if walk.modified() {
             match place.projection[walked - 1] {
-                PlaceElem::Deref | PlaceElem::Field(_) => Ok(ProjResult::Unfold(walked - 1)),
+                PlaceElem::Deref | PlaceElem::Field(_) => ProjResult::Unfold(walked - 1),
                 _ => unreachable!("a used place that ends in downcast is refused with 4"),
             }
-        } else if node.ensure_folded() {
+        } else if walk.node.ensure_folded() {
             debug_assert_eq!(walked, place.projection.len());
-            Ok(ProjResult::Fold)
+            ProjResult::Fold
         } else {
-            Ok(ProjResult::None)
-        }
+            ProjResult::None
+        };
+        Ok((answer, passed))
     }
 
     pub fn downcast(
@@ -52,20 +81,14 @@ impl Env {
         place: &Place,
         variant_idx: VariantIdx,
     ) -> Result<(), Refusal> {
-        let (node, ..) = self.ensure_unfolded(genv, place)?;
-        node.downcast(genv, variant_idx)?;
+        self.ensure_unfolded(genv, place)?.node.downcast(genv, variant_idx)?;
         Ok(())
     }
 
-    /// The node reached, how many elements were walked, and whether a tree changed. The walk
-    /// stops at the first index, where the type must be an array.
-    pub fn ensure_unfolded(
-        &mut self,
-        genv: &Types,
-        place: &Place,
-    ) -> Result<(&mut PlaceNode, usize, Modified), Refusal> {
+    /// The walk stops at the first index, where the type must be an array.
+    pub fn ensure_unfolded(&mut self, genv: &Types, place: &Place) -> Result<Walk<'_>, Refusal> {
         let mut node = &mut self.map[place.local];
-        let mut modified = false;
+        let mut changed_at = None;
         let mut i = 0;
         while i < place.projection.len() {
             let (n, m) = match place.projection[i] {
@@ -76,32 +99,33 @@ impl Env {
                 PlaceElem::Index => return Err(Refusal::WrongStep),
             };
             node = n;
-            modified |= m;
+            if m && changed_at.is_none() {
+                changed_at = Some(i);
+            }
             i += 1;
         }
-        Ok((node, i, modified))
+        Ok(Walk { node, walked: i, changed_at })
     }
 
     /// The type at the end of a walk, whose changes are dropped.
     pub fn walked_type(&self, genv: &Types, place: &Place) -> Result<Ty, Refusal> {
         let mut copy = self.clone();
-        let (node, ..) = copy.ensure_unfolded(genv, place)?;
-        Ok(node.ty())
+        let walk = copy.ensure_unfolded(genv, place)?;
+        Ok(walk.node.ty())
     }
 
     /// Carries out a fold: walk, then fold the node.
     pub fn fold(&mut self, genv: &Types, place: &Place) -> Result<(), Refusal> {
-        let (node, ..) = self.ensure_unfolded(genv, place)?;
-        node.ensure_folded();
+        self.ensure_unfolded(genv, place)?.node.ensure_folded();
         Ok(())
     }
 
     /// Carries out an unfold: walk; if the walked place ends in downcast that is all.
     pub fn unfold(&mut self, genv: &Types, place: &Place) -> Result<(), Refusal> {
-        let (node, walked, _) = self.ensure_unfolded(genv, place)?;
-        match place.projection[..walked].last() {
+        let walk = self.ensure_unfolded(genv, place)?;
+        match place.projection[..walk.walked].last() {
             Some(PlaceElem::Downcast(_)) => Ok(()),
-            _ => node.unfold(genv),
+            _ => walk.node.unfold(genv),
         }
     }
 

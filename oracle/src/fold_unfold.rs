@@ -8,7 +8,7 @@ use crate::{
     function::{
         Arm, BasicBlock, Body, Statement, Target, Terminator, TerminatorKind, Use, START_BLOCK,
     },
-    ghost_statements::{GhostStatement, GhostStatements, Point},
+    ghost_statements::{GhostStatement, GhostStatements, Point, Told},
     place::Place,
     queue::WorkQueue,
     refusal::Refusal,
@@ -98,13 +98,16 @@ impl Mode for Elaboration<'_> {
         env: &mut Env,
         place: &Place,
     ) -> Result<(), Refusal> {
-        let stmt = match env.projection(analysis.genv, place)? {
-            ProjResult::None => None,
-            ProjResult::Fold => Some(GhostStatement::Fold(place.clone())),
-            ProjResult::Unfold(len) => Some(GhostStatement::Unfold(place.truncate(len))),
-        };
-        if let Some(stmt) = stmt {
-            analysis.mode.stmts.insert_at(analysis.point, stmt);
+        let (stmts, point) = (&mut analysis.mode.stmts, analysis.point);
+        match env.projection(analysis.genv, place)? {
+            (ProjResult::None, _) => {}
+            (ProjResult::Fold, _) => {
+                stmts.insert_at(point, GhostStatement::Fold(place.clone()), Told::Nothing);
+            }
+            (ProjResult::Unfold(len), passed) => {
+                let stmt = GhostStatement::Unfold(place.truncate(len));
+                stmts.insert_at(point, stmt, Told::Passed(passed));
+            }
         }
         env.check_room()
     }

@@ -1,4 +1,4 @@
-//! Points, statements, and the statement record as words.
+//! Points, statements, the statement record as words, and the numbers beside it.
 
 use std::fmt;
 
@@ -13,6 +13,9 @@ pub const AT_ENTRY: u32 = 14;
 pub const FOLD: u32 = 15;
 pub const UNFOLD: u32 = 16;
 
+/// The number beside a statement for which `-` is printed.
+pub const DASH: u32 = 255;
+
 /// Where a statement stands. An edge is its target item.
 #[derive(Clone, Copy, PartialEq, Eq, Hash, Debug)]
 pub enum Point {
@@ -26,12 +29,28 @@ pub enum GhostStatement {
     Unfold(Place),
 }
 
+/// What a statement tells of where it comes from (document 02, F-4).
+#[derive(Clone, Copy, PartialEq, Eq, Debug)]
+pub enum Told {
+    /// Of an unfold from a walk: how many elements it had passed before the step that first changed a
+    /// tree.
+    Passed(usize),
+    /// Of a fold from a walk.
+    Nothing,
+    /// Of one collected at an edge, at entry or at return.
+    Collected,
+}
+
+/// A statement with its point and with what it tells.
+pub type Placed = (Point, GhostStatement, Told);
+
 /// All statements, in second-pass order.
 #[derive(Clone, PartialEq, Eq, Debug, Default)]
 pub struct GhostStatements {
-    stmts: Vec<(Point, GhostStatement)>,
+    stmts: Vec<Placed>,
 }
 
+/// Where statements are collected.
 pub struct StatementsAt<'a> {
     stmts: &'a mut GhostStatements,
     point: Point,
@@ -39,7 +58,7 @@ pub struct StatementsAt<'a> {
 
 impl StatementsAt<'_> {
     pub fn insert(&mut self, stmt: GhostStatement) {
-        self.stmts.insert_at(self.point, stmt);
+        self.stmts.insert_at(self.point, stmt, Told::Collected);
     }
 }
 
@@ -66,8 +85,8 @@ impl GhostStatement {
 }
 
 impl GhostStatements {
-    pub fn insert_at(&mut self, point: Point, stmt: GhostStatement) {
-        self.stmts.push((point, stmt));
+    pub fn insert_at(&mut self, point: Point, stmt: GhostStatement, told: Told) {
+        self.stmts.push((point, stmt, told));
     }
 
     pub fn at(&mut self, point: Point) -> StatementsAt<'_> {
@@ -75,10 +94,10 @@ impl GhostStatements {
     }
 
     pub fn statements_at(&self, point: Point) -> impl Iterator<Item = &GhostStatement> {
-        self.iter().filter(move |(at, _)| *at == point).map(|(_, stmt)| stmt)
+        self.iter().filter(move |(at, ..)| *at == point).map(|(_, stmt, _)| stmt)
     }
 
-    pub fn iter(&self) -> std::slice::Iter<'_, (Point, GhostStatement)> {
+    pub fn iter(&self) -> std::slice::Iter<'_, Placed> {
         self.stmts.iter()
     }
 
@@ -107,10 +126,15 @@ impl GhostStatements {
         Ok((self.len(), count))
     }
 
+    /// The numbers beside the record, one a statement.
+    pub fn numbers(&self) -> Vec<u32> {
+        self.iter().map(|(.., told)| told.number()).collect()
+    }
+
     /// Per statement its point, its verb and its place.
     fn entries(&self) -> Vec<(u32, u32)> {
         let mut entries = vec![];
-        for (point, stmt) in self.iter() {
+        for (point, stmt, _) in self.iter() {
             entries.push(point.entry());
             entries.push((stmt.code(), 0));
             entries.extend(stmt.place().to_items());
@@ -118,8 +142,8 @@ impl GhostStatements {
         entries
     }
 
-    /// Reads back what `write_record` wrote.
-    pub fn from_record(words: &[u32]) -> Option<GhostStatements> {
+    /// Reads back what `write_record` wrote, with the numbers that stand beside it.
+    pub fn from_record(words: &[u32], numbers: &[u32]) -> Option<GhostStatements> {
         let (statements, entries) = (*words.first()? as usize, *words.get(1)? as usize);
         let ops = words.get(2..2 + entries)?;
         let args = words.get(2 + entries..2 + 2 * entries)?;
@@ -132,9 +156,16 @@ impl GhostStatements {
             // The place goes on to the next point; its own codes are all below 13.
             at = (start..entries).find(|&i| ops[i] >= AT_ITEM).unwrap_or(entries);
             let place = Place::from_items(&ops[start..at], &args[start..at])?;
-            stmts.insert_at(point, statement(verb, place)?);
+            let stmt = statement(verb, place)?;
+            let told = Told::from_number(&stmt, *numbers.get(stmts.len())?)?;
+            stmts.insert_at(point, stmt, told);
         }
         (stmts.len() == statements).then_some(stmts)
+    }
+
+    /// The same of a record that a collecting call wrote, beside which no numbers stand.
+    pub fn from_collected(words: &[u32]) -> Option<GhostStatements> {
+        GhostStatements::from_record(words, &vec![DASH; words.len()])
     }
 }
 
@@ -143,6 +174,26 @@ fn statement(verb: u32, place: Place) -> Option<GhostStatement> {
         FOLD => Some(GhostStatement::Fold(place)),
         UNFOLD => Some(GhostStatement::Unfold(place)),
         _ => None,
+    }
+}
+
+impl Told {
+    /// Its entry in the array beside the record.
+    fn number(self) -> u32 {
+        match self {
+            Told::Passed(passed) => passed as u32,
+            Told::Nothing => 0,
+            Told::Collected => DASH,
+        }
+    }
+
+    fn from_number(stmt: &GhostStatement, number: u32) -> Option<Told> {
+        match (stmt, number) {
+            (_, DASH) => Some(Told::Collected),
+            (GhostStatement::Unfold(_), passed) => Some(Told::Passed(passed as usize)),
+            (GhostStatement::Fold(_), 0) => Some(Told::Nothing),
+            (GhostStatement::Fold(_), _) => None,
+        }
     }
 }
 
@@ -181,9 +232,20 @@ impl fmt::Display for GhostStatement {
     }
 }
 
-/// One line per statement: point, verb, place.
+/// The last word of a line, with the blank before it; nothing for a fold from a walk.
+impl fmt::Display for Told {
+    fn fmt(&self, f: &mut fmt::Formatter<'_>) -> fmt::Result {
+        match self {
+            Told::Passed(passed) => write!(f, " {passed}"),
+            Told::Nothing => Ok(()),
+            Told::Collected => write!(f, " -"),
+        }
+    }
+}
+
+/// One line per statement: point, verb, place, and what it tells.
 impl fmt::Display for GhostStatements {
     fn fmt(&self, f: &mut fmt::Formatter<'_>) -> fmt::Result {
-        self.iter().try_for_each(|(point, stmt)| writeln!(f, "{point} {stmt}"))
+        self.iter().try_for_each(|(point, stmt, told)| writeln!(f, "{point} {stmt}{told}"))
     }
 }

@@ -8,6 +8,8 @@ use crate::{
 pub const MAX_WORDS: usize = 4096;
 pub const MAX_JOIN_POINTS: usize = 16;
 pub const MAX_ENTRIES: usize = 1024;
+/// Three entries a statement at the least, so that this is always enough.
+const MAX_STATEMENTS: usize = MAX_ENTRIES / 3;
 
 /// What `ghosts` prints for what it reads.
 pub fn ghosts(input: &[u8]) -> String {
@@ -23,8 +25,9 @@ fn answer(input: &[u8]) -> Result<GhostStatements, Refusal> {
     let mut store_forms = vec![0; MAX_JOIN_POINTS * MAX_NODES];
     let mut store_whats = vec![0; MAX_JOIN_POINTS * MAX_NODES];
     let mut out = vec![0; 2 + 2 * MAX_ENTRIES];
-    ghost_statements(types, function, &mut store_forms, &mut store_whats, &mut out)?;
-    Ok(GhostStatements::from_record(&out).expect("a record just written"))
+    let mut told = vec![0; MAX_STATEMENTS];
+    ghost_statements(types, function, &mut store_forms, &mut store_whats, &mut out, &mut told)?;
+    Ok(GhostStatements::from_record(&out, &told).expect("a record just written"))
 }
 
 /// Too many words, a number from 2^32 or other text are 2, before all else.

@@ -9,7 +9,7 @@ pub mod env;
 pub mod fold_unfold;
 /// The function record, the order of items, join points and refusal 2.
 pub mod function;
-/// Points, statements and the statement record.
+/// Points, statements, the statement record and the numbers beside it.
 pub mod ghost_statements;
 /// The text program.
 pub mod ghosts;

@@ -65,8 +65,8 @@ impl<'a> Replay<'a> {
     /// Walks the place used on a copy.
     fn is_settled(&self, place: &Place) -> Result<bool, Refusal> {
         let mut copy = self.env.clone();
-        let (node, _, modified) = copy.ensure_unfolded(self.genv, place)?;
-        Ok(!modified && node.is_ty())
+        let walk = copy.ensure_unfolded(self.genv, place)?;
+        Ok(!walk.modified() && walk.node.is_ty())
     }
 }
 

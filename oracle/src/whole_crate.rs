@@ -29,7 +29,9 @@ pub fn crate_statements(
     let mut used = 0;
     for (position, function) in (1..).zip(functions) {
         let room = &mut out[used..];
-        match ghost_statements(types, function, store_forms, store_whats, room) {
+        // No numbers are given here, so their array is long enough, whatever fits the room.
+        let mut told = vec![0; room.len()];
+        match ghost_statements(types, function, store_forms, store_whats, room, &mut told) {
             Ok((statements, entries)) => {
                 counts.push((statements, entries));
                 used += 2 + 2 * entries;

@@ -30,7 +30,7 @@ fn cases(options: &str) -> (bool, String) {
 
 #[test]
 fn oracle_prints_what_ghosts_prints() {
-    assert_eq!(oracle(EXAMPLE), "at 2 unfold _1\nat 8 fold _1\nat 9 unfold _1\n");
+    assert_eq!(oracle(EXAMPLE), "at 2 unfold _1 0\nat 8 fold _1\nat 9 unfold _1 -\n");
     assert_eq!(oracle("1 0 0 0 1 0 1 1 0 0 0 11 0"), "");
     assert_eq!(oracle(""), "refused 1\n");
     assert_eq!(oracle("x"), "refused 2\n");

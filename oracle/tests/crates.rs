@@ -14,7 +14,7 @@ const WORKED: [u32; 38] = [
     2, 1, 4, 12, 0, 1, 0, 7, 10, 11, 0, 1, 2, 3, 0, 2, 5, 8, 9, 10, 10, 0, 5, 10, 10, 11, 1, 0, 0,
     0, 0, 1, 2, 1, 0, 3, 3, 0,
 ];
-/// _1.0 is used: `at 2 unfold _1`, a record of eight words.
+/// _1.0 is used: `at 2 unfold _1 0`, a record of eight words.
 const OPENS: [u32; 16] = [2, 0, 1, 4, 0, 1, 0, 0, 0, 2, 5, 11, 1, 0, 0, 0];
 /// *_1 is used.
 const WRONG: [u32; 16] = [2, 0, 1, 4, 0, 1, 0, 0, 0, 1, 5, 11, 1, 0, 0, 0];
@@ -120,7 +120,16 @@ fn each_alone() {
             let (mut forms, mut whats) = (vec![7; case.room[0]], vec![7; case.room[1]]);
             let mut room = vec![7; case.room[2] - used];
             let function = &words[..end as usize];
-            let alone = ghost_statements(&case.types, function, &mut forms, &mut whats, &mut room);
+            // 'Alone' means with the array for the numbers long enough.
+            let mut told = vec![7; counts.0];
+            let alone = ghost_statements(
+                &case.types,
+                function,
+                &mut forms,
+                &mut whats,
+                &mut room,
+                &mut told,
+            );
             assert_eq!(alone, Ok(counts));
             let length = 2 + 2 * counts.1;
             assert_eq!(room[..length], out[used..used + length]);

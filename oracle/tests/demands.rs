@@ -41,10 +41,11 @@ fn functions(seed: u64, count: usize, want: Option<u32>) -> impl Iterator<Item =
 fn accepted(function: &Function) -> (GhostStatements, Vec<u16>, Vec<u16>) {
     let shares = function.body.join_points().count() * MAX_NODES;
     let (mut forms, mut whats) = (vec![0; shares], vec![0; shares]);
-    let mut out = vec![0; 1 << 16];
+    let (mut out, mut told) = (vec![0; 1 << 16], vec![0; 1 << 14]);
     let Case { types, function, .. } = &function.case;
-    calls::ghost_statements(types, function, &mut forms, &mut whats, &mut out).expect("accepted");
-    (GhostStatements::from_record(&out).expect("a record"), forms, whats)
+    calls::ghost_statements(types, function, &mut forms, &mut whats, &mut out, &mut told)
+        .expect("accepted");
+    (GhostStatements::from_record(&out, &told).expect("a record"), forms, whats)
 }
 
 #[test]
@@ -120,7 +121,7 @@ fn the_second_pass_refuses_nothing() {
 
 /// No statement holds an index or breaks refusal 4.
 fn check_statements(body: &Body, stmts: &GhostStatements) {
-    for (_, stmt) in stmts.iter() {
+    for (_, stmt, _) in stmts.iter() {
         assert!(!stmt.place().projection.contains(&PlaceElem::Index));
         assert_eq!(stmt.place().check(body.local_types.len(), stmt.role()), Ok(()));
     }
@@ -206,7 +207,7 @@ fn a_state_join_gives_the_first_state_and_its_flag() {
 
 /// Carries out a collected list, with no node limit on the way.
 fn carry_all(genv: &Types, mut env: Env, stmts: &GhostStatements) -> Env {
-    for (_, stmt) in stmts.iter() {
+    for (_, stmt, _) in stmts.iter() {
         assert_eq!(env.carry_out(genv, stmt), Ok(()), "{stmt}");
     }
     env
@@ -274,7 +275,7 @@ fn folds_at_return_leave_nothing_open_behind_a_mutable_reference() {
         }
         let mut stmts = GhostStatements::default();
         envs[0].collect_folds_at_ret(&genv, 1..=args, &mut stmts.at(Point::FunEntry));
-        for (_, stmt) in stmts.iter() {
+        for (_, stmt, _) in stmts.iter() {
             assert!(matches!(stmt, GhostStatement::Fold(_)));
             assert_eq!(stmt.place().check(case.locals.len(), stmt.role()), Ok(()));
         }
@@ -308,15 +309,16 @@ fn a_projection_settles_its_place() {
             &case.place_ops,
             &case.place_args,
         );
-        let Ok(answer) = answer else {
+        let Ok((answer, passed)) = answer else {
             assert_eq!(after, case.states[0]);
             continue;
         };
         let place = Place::from_items(&case.place_ops, &case.place_args).expect("a place");
         let after = after.decode(&genv, &case.locals).expect("a good state");
         let mut copy = after.clone();
-        let (node, _, modified) = copy.ensure_unfolded(&genv, &place).expect("accepted again");
-        assert!(!modified && node.is_ty());
+        let walk = copy.ensure_unfolded(&genv, &place).expect("accepted again");
+        assert!(!walk.modified() && walk.node.is_ty());
+        check_passed(&genv, &envs[0], &place, passed, walk.walked);
         let mut carried = envs[0].clone();
         let which = match answer {
             ProjResult::None => 0,
@@ -333,6 +335,18 @@ fn a_projection_settles_its_place() {
         answers[which] += 1;
     }
     assert!(answers.iter().all(|&count| count > 1000), "{answers:?}");
+}
+
+/// The number of a walk: so many elements change nothing, and one more changes a tree, unless they are all
+/// that is walked.
+fn check_passed(genv: &Types, env: &Env, place: &Place, passed: usize, walked: usize) {
+    let changes = |elements: usize| {
+        let mut copy = env.clone();
+        copy.ensure_unfolded(genv, &place.truncate(elements)).expect("a walk's beginning");
+        copy != *env
+    };
+    assert!(!changes(passed), "{place} {passed}");
+    assert!(passed == walked || changes(passed + 1), "{place} {passed}");
 }
 
 #[test]
@@ -365,10 +379,13 @@ fn any_words() {
     let mut rng = Rng::new(13);
     for _ in 0..20_000 {
         let [types, function] = [0; 2].map(|_| any_list(&mut rng));
-        let (mut forms, mut whats, mut out) = ([7; 512], [7; 512], [7; 64]);
-        let answer = calls::ghost_statements(&types, &function, &mut forms, &mut whats, &mut out);
+        let (mut forms, mut whats) = ([7; 512], [7; 512]);
+        let (mut out, mut told) = ([7; 64], [7; 8]);
+        let answer =
+            calls::ghost_statements(&types, &function, &mut forms, &mut whats, &mut out, &mut told);
         if answer.is_err() {
-            assert_eq!((forms, whats, out), ([0; 512], [0; 512], [0; 64]));
+            assert_eq!((forms, whats), ([0; 512], [0; 512]));
+            assert_eq!((out, told), ([0; 64], [0; 8]));
         }
     }
 }

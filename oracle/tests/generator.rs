@@ -46,6 +46,27 @@ fn every_refusal_of_every_call() {
     some(Kind::Call(Call::Ghosts), Size::Normal, 10, 10);
 }
 
+/// Of the whole-function cases: numbers exactly enough and more; one too few, none at all, and enough of
+/// all else.
+#[test]
+fn lengths_for_the_numbers() {
+    let kind = Kind::Call(Call::Whole);
+    let accepted = some(kind, Size::Small, 0, 300);
+    let exact = |case: &&Case| case.answer().result.is_ok_and(|counts| counts[0] == case.room[3]);
+    let exactly = accepted.iter().filter(exact).count();
+    assert!((30..270).contains(&exactly), "{exactly}");
+    let mut short = [0; 2];
+    for case in some(kind, Size::Small, 10, 300) {
+        let mut more = case.clone();
+        more.room[3] = 1 << 10;
+        if let Ok(counts) = more.answer().result {
+            short[0] += usize::from(case.room[3] + 1 == counts[0]);
+            short[1] += usize::from(case.room[3] == 0);
+        }
+    }
+    assert!(short.iter().all(|&count| count > 10), "{short:?}");
+}
+
 #[test]
 fn small_cases_are_small() {
     for want in [0, 5, 6, 8, 10] {

@@ -14,6 +14,7 @@ const REFUSED: [(u32, &[&str]); 8] = [
             "text of bad types and a function cut off",
             "text of bad types alone",
             "text of sizes that don't fit in 32 bits",
+            "F-4, no numbers lent, and bad types",
         ],
     ),
     (
@@ -43,6 +44,7 @@ const REFUSED: [(u32, &[&str]); 8] = [
             "text of good types alone",
             "text of a function's sizes cut off",
             "text of a function's sizes that don't fit in 32 bits",
+            "F-4, no numbers lent, and a bad function",
         ],
     ),
     (
@@ -90,6 +92,9 @@ const REFUSED: [(u32, &[&str]); 8] = [
             "unfold of 64 fields",
             "unfold of 65 fields",
             "unfold of 129 elements",
+            "F-4, the last of 129 elements opens",
+            "F-4, the last of 64 fields opens",
+            "F-4, no numbers lent, and a bad place",
         ],
     ),
     (
@@ -102,6 +107,8 @@ const REFUSED: [(u32, &[&str]); 8] = [
             "F-1, a match on an index at a field that is no array",
             "F-1, a match on an element with no downcast, its enum folded by then",
             "F-1, a match on an element with no downcast, its enum at another variant by then",
+            "F-4, no numbers lent, and a wrong step",
+            "F-4, no numbers lent, and a wrong step and a short buffer",
         ],
     ),
     (6, &["F-1, a match on an element, its enum at another variant by then"]),
@@ -124,10 +131,17 @@ const REFUSED: [(u32, &[&str]); 8] = [
     ),
 ];
 
-const SHORT: [&str; 7] = [
+const SHORT: [&str; 14] = [
     "store forms 511",
     "store whats 511",
     "output 19",
+    "numbers 2",
+    "F-4, 0 numbers for 3 statements",
+    "F-4, 1 numbers for 3 statements",
+    "F-4, 2 numbers for 3 statements",
+    "F-4, 2 numbers for 3 statements, and a short buffer",
+    "F-4, 3 numbers for 3 statements, and a short buffer",
+    "F-4, no numbers lent, and a short store",
     "output 0 for no statement",
     "output 1 for no statement",
     "text of 17 join points",

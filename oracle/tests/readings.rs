@@ -11,7 +11,7 @@ use oracle::{
         draft::{Draft, Item},
         limits::EXAMPLE,
     },
-    ghost_statements::{GhostStatement, GhostStatements, Point},
+    ghost_statements::{GhostStatement, GhostStatements, Point, Told},
     ghosts::ghosts,
     place::ROOT,
     replay::Replay,
@@ -301,10 +301,10 @@ fn reading_9_a_list_past_1000_nodes_on_its_way() {
     let (from, to) = (open(1), open(0));
     let mut stmts = GhostStatements::default();
     from.collect_fold_unfolds_at_goto(&genv, &to, &mut stmts.at(Point::FunEntry)).unwrap();
-    assert_eq!(stmts.to_string(), "entry unfold _0\nentry fold _1\n");
+    assert_eq!(stmts.to_string(), "entry unfold _0 -\nentry fold _1 -\n");
     let mut env = from;
     let mut most = 0;
-    for (_, stmt) in stmts.iter() {
+    for (_, stmt, _) in stmts.iter() {
         env.carry_out(&genv, stmt).unwrap();
         most = most.max(env.node_count());
     }
@@ -432,7 +432,7 @@ fn reading_11_notes() {
 #[test]
 fn reading_11_a_place_noted_in_itself() {
     let lines = blocks(&[0, 5], &["note _1 _1; switch _1 0>1 1", "use _1; return"]).unwrap();
-    assert_eq!(lines, ["at 7 fold _1", "at 8 fold _1"]);
+    assert_eq!(lines, ["at 7 fold _1 -", "at 8 fold _1 -"]);
 }
 
 #[test]
@@ -476,7 +476,7 @@ fn reading_13_a_share_of_zeros() {
     let draft = function(&[0, 1], "", &texts).words();
     let (mut forms, mut whats, mut out) = ([7; 1024], [7; 1024], [7; 2]);
     let types = table_types();
-    let answer = calls::ghost_statements(&types, &draft, &mut forms, &mut whats, &mut out);
+    let answer = calls::ghost_statements(&types, &draft, &mut forms, &mut whats, &mut out, &mut []);
     assert_eq!(answer, Ok((0, 0)));
     assert_eq!((forms, whats, out), ([0; 1024], [0; 1024], [0; 2]));
     // A loop that brings the same state back: visited once, though its share is all zero.
@@ -554,7 +554,7 @@ fn reading_16_buffers() {
 
 #[test]
 fn reading_18_words_of_ghosts() {
-    let good = "at 2 unfold _1\nat 8 fold _1\nat 9 unfold _1\n";
+    let good = "at 2 unfold _1 0\nat 8 fold _1\nat 9 unfold _1 -\n";
     let say = |text: &str| ghosts(text.as_bytes());
     assert_eq!(say(EXAMPLE), good);
     assert_eq!(say(&EXAMPLE.replace(' ', "\n")), good);
@@ -628,12 +628,12 @@ fn reading_22_the_replay_does_not_walk_the_entry_uses() {
     let words = table_types();
     let genv = read_types(&words);
     let draft = function(&[0, 1], "use _1.0; use _1", &["use _1; return"]);
-    assert_eq!(run(&words, &draft).unwrap(), ["entry unfold _1", "entry fold _1"]);
+    assert_eq!(run(&words, &draft).unwrap(), ["entry unfold _1 0", "entry fold _1"]);
     let body = Body::read(&genv, &draft.words()).unwrap();
     let mut stmts = GhostStatements::default();
     let unfold = GhostStatement::Unfold(place("_1"));
-    stmts.insert_at(Point::FunEntry, unfold);
-    stmts.insert_at(Point::FunEntry, GhostStatement::Fold(place("_1")));
+    stmts.insert_at(Point::FunEntry, unfold, Told::Passed(0));
+    stmts.insert_at(Point::FunEntry, GhostStatement::Fold(place("_1")), Told::Nothing);
     let mut replay = Replay::start(&genv, &body, &stmts).unwrap();
     assert_eq!(replay.go_through(), Ok(true));
 }
@@ -648,7 +648,7 @@ fn an_empty_struct_opens_without_a_new_node() {
     let (ops, args) = items("_0");
     assert_eq!(calls::unfold(&words, &[0], &folded, &ops, &args), (Ok(()), open.clone()));
     let after = calls::projection(&words, &[0], &open, &ops, &args);
-    assert_eq!(after, (Ok(ProjResult::Fold), folded.clone()));
+    assert_eq!(after, (Ok((ProjResult::Fold, 0)), folded.clone()));
     assert_eq!(calls::join(&words, &[0], &folded, &open), Ok((open.clone(), true)));
     assert_eq!(calls::join(&words, &[0], &open, &folded), Ok((open, false)));
     // Behind a mutable reference it folds, behind a box it doesn't.

@@ -212,7 +212,7 @@ fn refusal_8_no_such_value() {
         let first = format!("note _1 _2; switch _2 {switch}");
         run(&table_types(), &function(&[0, 5, 0], "", &[&first, "return"]))
     };
-    assert_eq!(blocks("0>1 1>1 1"), Ok(vec!["at 7 fold _1".into(), "at 9 fold _1".into()]));
+    assert_eq!(blocks("0>1 1>1 1"), Ok(vec!["at 7 fold _1 -".into(), "at 9 fold _1 -".into()]));
     assert_eq!(blocks("2>1 1"), Err(8));
     assert_eq!(blocks("0>1 0>1 1"), Err(8), "no variant is left for it");
     assert_eq!(
@@ -232,7 +232,7 @@ fn open_struct(n: usize) -> (Vec<u32>, Vec<u32>) {
 #[test]
 fn refusal_9_state_full() {
     let (words, function) = open_struct(511);
-    assert_eq!(run_words(&words, &function), Ok(vec!["at 2 unfold _0".to_string()]));
+    assert_eq!(run_words(&words, &function), Ok(vec!["at 2 unfold _0 0".to_string()]));
     let (words, function) = open_struct(512);
     assert_eq!(run_words(&words, &function), Err(9));
 }
@@ -241,20 +241,23 @@ fn refusal_9_state_full() {
 fn refusal_10_short_store() {
     let words = table_types();
     let draft = function(&[0, 1], "", &["use _1.0; switch 0>1 1", "return"]).words();
-    let call = |forms: usize, whats: usize, out: usize| {
-        let (mut forms, mut whats, mut out) = (vec![7; forms], vec![7; whats], vec![7; out]);
-        let answer = calls::ghost_statements(&words, &draft, &mut forms, &mut whats, &mut out);
+    let call = |room: [usize; 4]| {
+        let [mut forms, mut whats] = [room[0], room[1]].map(|length| vec![7; length]);
+        let [mut out, mut told] = [room[2], room[3]].map(|length| vec![7; length]);
+        let answer =
+            calls::ghost_statements(&words, &draft, &mut forms, &mut whats, &mut out, &mut told);
         if answer.is_err() {
             assert!(forms.iter().chain(&whats).all(|&entry| entry == 0));
-            assert!(out.iter().all(|&word| word == 0));
+            assert!(out.iter().chain(&told).all(|&word| word == 0));
         }
         number(answer)
     };
-    assert_eq!(call(512, 512, 8), 0);
-    assert_eq!(call(511, 512, 8), 10);
-    assert_eq!(call(512, 511, 8), 10);
-    assert_eq!(call(512, 512, 7), 10);
-    assert_eq!(call(0, 0, 0), 10);
+    assert_eq!(call([512, 512, 8, 1]), 0);
+    assert_eq!(call([511, 512, 8, 1]), 10);
+    assert_eq!(call([512, 511, 8, 1]), 10);
+    assert_eq!(call([512, 512, 7, 1]), 10);
+    assert_eq!(call([512, 512, 8, 0]), 10);
+    assert_eq!(call([0, 0, 0, 0]), 10);
 }
 
 #[test]
@@ -270,10 +273,11 @@ fn the_lower_record_first() {
     assert_eq!(run(&types, &both), Err(2));
     let call = |function: &[u32], room: usize, out: usize| {
         let (mut forms, mut whats) = (vec![0; room], vec![0; room]);
-        number(calls::ghost_statements(&types, function, &mut forms, &mut whats, &mut vec![0; out]))
+        let mut out = vec![0; out];
+        number(calls::ghost_statements(&types, function, &mut forms, &mut whats, &mut out, &mut []))
     };
     assert_eq!(call(&bad_place.words(), 0, 0), 4);
     let wrong_step = function(&[0, 1], "", &["use _1.*; goto 0"]).words();
     assert_eq!(call(&wrong_step, 0, 0), 10);
-    assert_eq!(call(&wrong_step, 512, 0), 5, "the statement buffer comes last");
+    assert_eq!(call(&wrong_step, 512, 0), 5, "the statement buffer and the numbers come last");
 }

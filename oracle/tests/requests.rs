@@ -40,7 +40,7 @@ fn f1_an_element_is_matched_on() {
     assert_eq!(blocks(&[0, 1, 0], &texts), Ok(vec![]));
     // Behind a reference, and of a field: the owner stays open in the targets.
     let texts = ["note _1.*.0.[] _2; switch _2 0>1 2", "use _1.*.0.[]; return", "stop"];
-    assert_eq!(blocks(&[0, 3, 0], &texts).unwrap(), ["at 4 unfold _1.*", "at 17 fold _1.*"]);
+    assert_eq!(blocks(&[0, 3, 0], &texts).unwrap(), ["at 4 unfold _1.* 0", "at 17 fold _1.* -"]);
 }
 
 #[test]
@@ -90,7 +90,7 @@ fn f1_its_changes_are_dropped() {
     // _1 is folded between note and switch: the walk would open it, the targets find it folded.
     let texts = ["note _1.0.[] _0; use _1; switch _0 0>1 1", "use _1.0.[]; return"];
     let lines = blocks(&[0, 2], &texts).unwrap();
-    assert_eq!(lines, ["at 3 unfold _1", "at 7 fold _1", "at 16 unfold _1"]);
+    assert_eq!(lines, ["at 3 unfold _1 0", "at 7 fold _1", "at 16 unfold _1 0"]);
     // 9 isn't tested by it: 512 nodes stand as the switch is met, and the walk needs more.
     let wide = types(&[(TyKind::Opaque, &[]), (TyKind::Array, &[]), (TyKind::Struct, &[1, 0])]);
     let mut locals = vec![0, 2];
@@ -115,7 +115,7 @@ fn f1_a_loop_over_saved_timers() {
         "return",
     ];
     let lines = blocks(&[0, 3, 0], &texts).unwrap();
-    assert!(lines.contains(&"at 3 unfold _1.*".to_string()), "{lines:?}");
+    assert!(lines.contains(&"at 3 unfold _1.* 0".to_string()), "{lines:?}");
     replays(&[0, 3, 0], &texts);
 }
 

@@ -97,11 +97,11 @@ fn collect(ty: u32, from: &str, to: &str) -> Result<Vec<String>, u32> {
     let [first, second] = [from, to].map(|text| state(&genv, &[ty], &[text]));
     let mut out = [7; 256];
     let answer = calls::collect_fold_unfolds(&words, &[ty], &first, &second, &mut out);
-    answer.map(|_| lines(&out)).map_err(|refusal| refusal.number())
+    answer.map(|_| collected_lines(&out)).map_err(|refusal| refusal.number())
 }
 
 fn list(lines: &[&str]) -> Result<Vec<String>, u32> {
-    Ok(lines.iter().map(|line| format!("entry {line}")).collect())
+    Ok(lines.iter().map(|line| format!("entry {line} -")).collect())
 }
 
 #[test]
@@ -143,7 +143,7 @@ fn at_return(ty: u32, text: &str) -> Vec<String> {
     let node = tree(&genv, ty, text);
     let mut stmts = GhostStatements::default();
     node.collect_folds_at_ret(&genv, &mut place("_1"), &mut stmts.at(Point::FunEntry));
-    stmts.iter().map(|(_, stmt)| stmt.to_string()).collect()
+    stmts.iter().map(|(_, stmt, _)| stmt.to_string()).collect()
 }
 
 #[test]
@@ -167,9 +167,9 @@ fn only_arguments_are_folded_at_return() {
         let lines = run(&words, draft).unwrap();
         lines.into_iter().filter(|line| line.contains(" fold ")).collect::<Vec<_>>()
     };
-    assert_eq!(folds(&draft), ["at 9 fold _1.*", "at 9 fold _2.*"]);
+    assert_eq!(folds(&draft), ["at 9 fold _1.* -", "at 9 fold _2.* -"]);
     draft.arg_count = 1;
-    assert_eq!(folds(&draft), ["at 9 fold _1.*"]);
+    assert_eq!(folds(&draft), ["at 9 fold _1.* -"]);
     draft.arg_count = 0;
     assert!(folds(&draft).is_empty());
 }
@@ -192,9 +192,9 @@ fn second_pass_order_follows_the_ranks() {
     let texts = ["switch 0>1 1>1 2>2 2", "use _0.0; stop", "use _0.1; stop"];
     let mut draft = function(&[1], "", &texts);
     let words = rich_types();
-    assert_eq!(run(&words, &draft).unwrap(), ["at 10 unfold _0", "at 14 unfold _0"]);
+    assert_eq!(run(&words, &draft).unwrap(), ["at 10 unfold _0 0", "at 14 unfold _0 0"]);
     draft.rank = vec![0, 2, 1];
-    assert_eq!(run(&words, &draft).unwrap(), ["at 14 unfold _0", "at 10 unfold _0"]);
+    assert_eq!(run(&words, &draft).unwrap(), ["at 14 unfold _0 0", "at 10 unfold _0 0"]);
 }
 
 #[test]
@@ -203,7 +203,7 @@ fn blocks_entered_at_once_come_before_what_waits() {
     let texts = ["switch 0>1 1>1 3", "use _0.0; stop", "stop", "use _0.1; goto 2"];
     let draft = function(&[1], "", &texts);
     let lines = run(&rich_types(), &draft).unwrap();
-    assert_eq!(lines, ["at 13 unfold _0", "at 8 unfold _0"]);
+    assert_eq!(lines, ["at 13 unfold _0 0", "at 8 unfold _0 0"]);
 }
 
 #[test]
@@ -212,7 +212,7 @@ fn statements_of_the_start_block_as_a_join_point() {
     let texts = ["use _0.*; switch 0>0 1", "stop"];
     let draft = function(&[2], "use _0.*.0", &texts);
     let lines = run(&rich_types(), &draft).unwrap();
-    assert_eq!(lines, ["entry unfold _0.*", "entry fold _0.*"]);
+    assert_eq!(lines, ["entry unfold _0.* 0", "entry fold _0.* -"]);
 }
 
 #[test]
@@ -220,19 +220,19 @@ fn a_loop_that_opens_and_folds() {
     // Behind a mutable reference the head's state folds; each round opens it again.
     let texts = ["goto 1", "use _0.*.0; switch 0>1 2", "return"];
     let lines = run(&rich_types(), &function(&[2], "", &texts)).unwrap();
-    assert_eq!(lines, ["at 4 unfold _0.*", "at 7 fold _0"]);
+    assert_eq!(lines, ["at 4 unfold _0.* 0", "at 7 fold _0 -"]);
     // A struct stays open round the loop.
     let texts = ["goto 1", "use _0.0; switch 0>1 2", "return"];
     let lines = run(&rich_types(), &function(&[1], "", &texts)).unwrap();
-    assert_eq!(lines, ["at 0 unfold _0"]);
+    assert_eq!(lines, ["at 0 unfold _0 -"]);
 }
 
 #[test]
 fn an_index_ends_the_walk() {
     let words = types(&[(TyKind::Array, &[]), (TyKind::Struct, &[0]), (TyKind::MutRef, &[1])]);
     let lines = |text: &str| run(&words, &function(&[2], "", &[text]));
-    assert_eq!(lines("use _0.*.0.[].7.*; stop").unwrap(), ["at 6 unfold _0.*"]);
-    assert_eq!(lines("use _0.*.0; use _0.*.0.[]; stop").unwrap(), ["at 3 unfold _0.*"]);
+    assert_eq!(lines("use _0.*.0.[].7.*; stop").unwrap(), ["at 6 unfold _0.* 0"]);
+    assert_eq!(lines("use _0.*.0; use _0.*.0.[]; stop").unwrap(), ["at 3 unfold _0.* 0"]);
     assert_eq!(lines("use _0.*.0; use _0.*.[]; stop"), Err(5), "an open struct is no array");
     assert_eq!(lines("use _0.[]; stop"), Err(5));
 }
@@ -246,7 +246,7 @@ fn a_match_opens_its_variants_unrecorded() {
         "use _1; return",
     ];
     let lines = run(&rich_types(), &function(&[0, 11], "", &texts)).unwrap();
-    assert_eq!(lines, ["at 15 unfold _1.as0.0"]);
+    assert_eq!(lines, ["at 15 unfold _1.as0.0 2"]);
     // One variant is left: the otherwise target opens it.
     let texts = ["note _1 _0; switch _0 0>1 2", "return", "use _1.1; return"];
     let lines = run(&rich_types(), &function(&[0, 11], "", &texts)).unwrap();

@@ -184,7 +184,7 @@ fn a_record_from_statements() {
     draft.block([items(statement(0, 0, &["_1.*.as1.0", "_0"])), vec![(11, 0)]].concat());
     draft.block([items(statement(0, 0, &["0", "_0"])), vec![(11, 0)]].concat());
     let lines = run(&types, &draft).unwrap();
-    assert_eq!(lines, ["at 2 unfold _1", "at 17 fold _1.*", "at 20 fold _1.*"]);
+    assert_eq!(lines, ["at 2 unfold _1 0", "at 17 fold _1.* -", "at 20 fold _1.* -"]);
 }
 
 const NO_PLACE: [&str; 6] = [

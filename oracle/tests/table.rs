@@ -62,8 +62,8 @@ fn w8() {
     check_join(6, "*S(F,F)", "*F", "*S(F,F)", (false, true));
 }
 
-/// The answer of a projection of `_1`, whose tree is given.
-fn project(ty: u32, before: &str, used: &str) -> ProjResult {
+/// The answer of a projection of `_1`, whose tree is given, and the walk's number.
+fn project(ty: u32, before: &str, used: &str) -> (ProjResult, usize) {
     let words = table_types();
     let genv = read_types(&words);
     let locals = [0, ty];
@@ -75,23 +75,23 @@ fn project(ty: u32, before: &str, used: &str) -> ProjResult {
 
 #[test]
 fn w9() {
-    assert_eq!(project(2, "F", "_1.*.0"), ProjResult::Unfold(1));
+    assert_eq!(project(2, "F", "_1.*.0"), (ProjResult::Unfold(1), 0));
     let draft = function(&[0, 2], "", &["use _1.*.0; stop"]);
-    assert_eq!(run(&table_types(), &draft), Ok(vec!["at 3 unfold _1.*".to_string()]));
+    assert_eq!(run(&table_types(), &draft), Ok(vec!["at 3 unfold _1.* 0".to_string()]));
 }
 
 #[test]
 fn w10() {
-    assert_eq!(project(1, "S(F,F)", "_1"), ProjResult::Fold);
+    assert_eq!(project(1, "S(F,F)", "_1"), (ProjResult::Fold, 0));
     let draft = function(&[0, 1], "", &["use _1.0; use _1; stop"]);
     assert_eq!(run(&table_types(), &draft).unwrap()[1], "at 4 fold _1");
 }
 
 #[test]
 fn w11() {
-    assert_eq!(project(5, "F", "_1.as1.0"), ProjResult::Unfold(1));
+    assert_eq!(project(5, "F", "_1.as1.0"), (ProjResult::Unfold(1), 0));
     let draft = function(&[0, 5], "", &["use _1.as1.0; stop"]);
-    assert_eq!(run(&table_types(), &draft), Ok(vec!["at 3 unfold _1.as1".to_string()]));
+    assert_eq!(run(&table_types(), &draft), Ok(vec!["at 3 unfold _1.as1 0".to_string()]));
 }
 
 /// What is collected for `_1` from one tree to another.
@@ -102,7 +102,7 @@ fn collect(ty: u32, from: &str, to: &str) -> Result<Vec<String>, u32> {
     let [first, second] = [from, to].map(|text| state(&genv, &locals, &["F", text]));
     let mut out = [1; 64];
     match calls::collect_fold_unfolds(&words, &locals, &first, &second, &mut out) {
-        Ok(_) => Ok(lines(&out)),
+        Ok(_) => Ok(collected_lines(&out)),
         Err(refusal) => {
             assert_eq!(out, [0; 64]);
             Err(refusal.number())
@@ -118,7 +118,7 @@ fn w12() {
 
 #[test]
 fn w13() {
-    assert_eq!(collect(7, "F", "T(S(F,F))"), Ok(vec!["entry unfold _1.0".to_string()]));
+    assert_eq!(collect(7, "F", "T(S(F,F))"), Ok(vec!["entry unfold _1.0 -".to_string()]));
 }
 
 #[test]
@@ -129,14 +129,14 @@ fn w14() {
     let before = state(&genv, &locals, &["F", "*F"]);
     let mut out = [1; 64];
     calls::collect_folds_at_ret(&words, &locals, 1, &before, &mut out).unwrap();
-    assert_eq!(lines(&out), ["entry fold _1.*"]);
+    assert_eq!(collected_lines(&out), ["entry fold _1.* -"]);
     let draft = function(&locals, "", &["use _1.*; return"]);
-    assert_eq!(run(&words, &draft).unwrap(), ["at 2 unfold _1", "at 3 fold _1.*"]);
+    assert_eq!(run(&words, &draft).unwrap(), ["at 2 unfold _1 0", "at 3 fold _1.* -"]);
 }
 
 #[test]
 fn worked_example() {
-    let output = "at 2 unfold _1\nat 8 fold _1\nat 9 unfold _1\n";
+    let output = "at 2 unfold _1 0\nat 8 fold _1\nat 9 unfold _1 -\n";
     assert_eq!(ghosts(EXAMPLE.as_bytes()), output);
 }
 
@@ -144,9 +144,11 @@ fn worked_example() {
 fn worked_example_to_the_last_word() {
     let words: Vec<u32> = EXAMPLE.split_whitespace().map(|word| word.parse().unwrap()).collect();
     let (types, function) = words.split_at(8);
-    let (mut forms, mut whats, mut out) = ([9; 600], [9; 513], [9; 24]);
-    let counts = calls::ghost_statements(types, function, &mut forms, &mut whats, &mut out);
+    let (mut forms, mut whats, mut out, mut told) = ([9; 600], [9; 513], [9; 24], [9; 5]);
+    let counts =
+        calls::ghost_statements(types, function, &mut forms, &mut whats, &mut out, &mut told);
     assert_eq!(counts, Ok((3, 9)));
+    assert_eq!(told, [0, 0, 255, 0, 0]);
     let mut record = vec![3, 9];
     record.extend([13, 16, 0, 13, 15, 0, 13, 16, 0]);
     record.extend([2, 0, 1, 8, 0, 1, 9, 0, 1]);

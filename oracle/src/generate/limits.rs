@@ -47,13 +47,13 @@ pub(super) fn round(limit: usize) -> [usize; 3] {
     [limit - 1, limit, limit + 1]
 }
 
-/// Room for all join points and many statements.
+/// Room for all join points and many statements, and for their numbers.
 pub(super) fn whole(types: Vec<u32>, draft: &Draft) -> Case {
     let function = draft.words();
     let checked = Case { types, function, ..Case::new(Call::Function) };
     let joins = checked.answer().result.map_or(0, |words| words[0]);
     let store = joins * MAX_NODES;
-    Case { call: Call::Whole, room: vec![store, store, 1 << 14], ..checked }
+    Case { call: Call::Whole, room: vec![store, store, 1 << 14, 1 << 12], ..checked }
 }
 
 fn opaque() -> TypeList {
@@ -199,7 +199,7 @@ fn node_count(cases: &mut Vec<Named>) {
 }
 
 /// Structs of one field, each in the next, `bottom` innermost.
-fn nested(bottom: TyKind, depth: usize) -> TypeList {
+pub(super) fn nested(bottom: TyKind, depth: usize) -> TypeList {
     let mut types = TypeList::default();
     types.push(bottom, vec![]);
     for below in 0..depth as Ty {
@@ -254,11 +254,11 @@ fn place_lengths(cases: &mut Vec<Named>) {
 
 fn example() -> Case {
     let words: Vec<u32> = EXAMPLE.split_whitespace().map(|word| word.parse().unwrap()).collect();
-    Case::whole(words[..8].to_vec(), words[8..].to_vec(), [512, 512, 20])
+    Case::whole(words[..8].to_vec(), words[8..].to_vec(), [512, 512, 20, 3])
 }
 
 fn rooms(cases: &mut Vec<Named>) {
-    for (which, name) in ["store forms", "store whats", "output"].iter().enumerate() {
+    for (which, name) in ["store forms", "store whats", "output", "numbers"].iter().enumerate() {
         for change in [0, 1, 2] {
             let mut case = example();
             case.room[which] = case.room[which] + change - 1;
@@ -318,13 +318,19 @@ fn first_walk() -> Named {
 }
 
 /// A case of one state and, if the call wants it, one place.
-fn on_state(call: Call, types: &TypeList, locals: Vec<Ty>, state: State, place: &Place) -> Case {
+pub(super) fn on_state(
+    call: Call,
+    types: &TypeList,
+    locals: Vec<Ty>,
+    state: State,
+    place: &Place,
+) -> Case {
     let mut case = Case { types: types.words(), locals, states: vec![state], ..Case::new(call) };
     case.set_place(&place.to_items());
     case
 }
 
-fn encode(env: &Env) -> State {
+pub(super) fn encode(env: &Env) -> State {
     State::encode(env).expect("at most 512 nodes")
 }
 

@@ -7,6 +7,7 @@ pub mod draft;
 pub mod full;
 pub mod function;
 pub mod limits;
+pub mod numbers;
 pub mod places;
 pub mod requests;
 pub mod rng;

@@ -174,8 +174,8 @@ pub fn wrong_place(rng: &mut Rng, genv: &Types, env: &Env) -> Place {
         place.projection.truncate(at);
     }
     let mut copy = env.clone();
-    let Ok((node, ..)) = copy.ensure_unfolded(genv, &place) else { return place };
-    let tail = rng.pick(&wrong_steps(genv, node));
+    let Ok(walk) = copy.ensure_unfolded(genv, &place) else { return place };
+    let tail = rng.pick(&wrong_steps(genv, walk.node));
     place.projection.push(tail);
     if matches!(tail, PlaceElem::Downcast(_)) {
         place.projection.push(PlaceElem::Field(0));

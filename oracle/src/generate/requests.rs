@@ -4,6 +4,7 @@ use super::{
     crates::crates,
     draft::{push_note, push_return, push_switch, push_use, Draft},
     limits::{root, whole, Named},
+    numbers::numbers,
     statements::lists,
     types::TypeList,
 };
@@ -17,6 +18,7 @@ pub fn requests(cases: &mut Vec<Named>) {
     elements(cases);
     lists(cases);
     crates(cases);
+    numbers(cases);
 }
 
 const ARRAY: Ty = 1;

@@ -42,7 +42,7 @@ fn attempt(rng: &mut Rng, size: Size, want: u32) -> Case {
         2 if rng.chance(40) => damage_draft(rng, &mut draft),
         _ => {}
     }
-    let mut case = Case::whole(types.words(), draft.words(), [0, 0, 0]);
+    let mut case = Case::whole(types.words(), draft.words(), [0; 4]);
     match want {
         1 => damage_words(rng, &mut case.types),
         2 if rng.chance(60) => damage_words(rng, &mut case.function),
@@ -98,25 +98,31 @@ fn spoil_place(rng: &mut Rng, draft: &mut Draft) {
     items.splice(range, bad.to_items());
 }
 
-/// Exactly enough, plenty, or, for 10, too little of one.
-fn random_room(rng: &mut Rng, case: &Case, want: u32) -> [usize; 3] {
+/// Exactly enough, plenty, or, for 10, too little of one. Another refusal comes before the numbers, so
+/// that any length will do for them.
+fn random_room(rng: &mut Rng, case: &Case, want: u32) -> [usize; 4] {
     let checked = Case { call: Call::Function, ..case.clone() };
     let joins = checked.answer().result.map_or(0, |words| words[0]);
     let store = joins * MAX_NODES;
-    let roomy = Case { room: vec![store, store, 1 << 16], ..case.clone() };
-    let out = match roomy.answer().result {
-        Ok(counts) => 2 + 2 * counts[1],
-        Err(_) => 2,
+    let roomy = Case { room: vec![store, store, 1 << 16, 1 << 14], ..case.clone() };
+    let (out, told) = match roomy.answer().result {
+        Ok(counts) => (2 + 2 * counts[1], counts[0]),
+        Err(_) => (2, rng.pick(&[0, 0, 1, 8])),
     };
-    let mut room = [store, store, out].map(|exact| match rng.below(3) {
+    let enough = [store, store, out, told];
+    let mut room = enough.map(|exact| match rng.below(3) {
         0 => exact,
         1 => exact + 1,
         _ => exact + rng.below(600),
     });
     if want == 10 {
-        let which = if joins == 0 { 2 } else { rng.below(3) };
-        let exact = [store, store, out][which];
-        room[which] = if rng.chance(60) { exact - 1 } else { rng.below(exact) };
+        let some: Vec<usize> = (0..4).filter(|&which| enough[which] > 0).collect();
+        let which = rng.pick(&some);
+        room[which] = match rng.below(5) {
+            0..=2 => enough[which] - 1,
+            3 => rng.below(enough[which]),
+            _ => 0,
+        };
     }
     room
 }
@@ -155,7 +161,8 @@ pub fn function_case(rng: &mut Rng, size: Size) -> Case {
 /// Any words as the records, the second or both; or good records of which a word is changed.
 pub fn words_case(rng: &mut Rng, size: Size) -> Case {
     let (types, draft) = random_pair(rng, size, None);
-    let mut case = Case::whole(types.words(), draft.words(), [4096, 4096, 1024]);
+    let told = rng.weighted(&[(80, 512), (20, 0)]);
+    let mut case = Case::whole(types.words(), draft.words(), [4096, 4096, 1024, told]);
     match rng.below(4) {
         0 => {
             case.types = random_words(rng);

@@ -184,24 +184,31 @@ pub fn run_words(types: &[u32], function: &[u32]) -> Result<Vec<String>, u32> {
     let mut forms = vec![1; 256 * MAX_NODES];
     let mut whats = vec![1; 256 * MAX_NODES];
     let mut out = vec![1; 1 << 17];
-    let result = calls::ghost_statements(types, function, &mut forms, &mut whats, &mut out);
+    let mut told = vec![1; 1 << 15];
+    let result =
+        calls::ghost_statements(types, function, &mut forms, &mut whats, &mut out, &mut told);
     match result {
         Ok((statements, entries)) => {
             assert_eq!(out[..2], [statements as u32, entries as u32]);
-            Ok(lines(&out))
+            assert!(told[statements..].iter().all(|&word| word == 0), "zeros behind the numbers");
+            let stmts = GhostStatements::from_record(&out, &told).expect("a statement record");
+            Ok(lines(&stmts))
         }
         Err(refusal) => {
-            assert!(out.iter().all(|&word| word == 0), "output is zeroed");
+            assert!(out.iter().chain(&told).all(|&word| word == 0), "output is zeroed");
             assert!(forms.iter().chain(&whats).all(|&word| word == 0), "store is zeroed");
             Err(refusal.number())
         }
     }
 }
 
-/// The lines of a statement record.
-pub fn lines(out: &[u32]) -> Vec<String> {
-    let stmts = GhostStatements::from_record(out).expect("a statement record");
+pub fn lines(stmts: &GhostStatements) -> Vec<String> {
     stmts.to_string().lines().map(str::to_string).collect()
+}
+
+/// The lines of a record that a collecting call wrote.
+pub fn collected_lines(out: &[u32]) -> Vec<String> {
+    lines(&GhostStatements::from_collected(out).expect("a statement record"))
 }
 
 pub fn number<A>(result: Result<A, Refusal>) -> u32 {
