@@ -16,6 +16,8 @@ mod foreign {
             whats_len: usize,
             out: *mut u32,
             out_len: usize,
+            told: *mut u32,
+            told_len: usize,
         ) -> u32;
 
         pub fn exports_crate_statements(
@@ -43,37 +45,51 @@ mod foreign {
     }
 }
 
-/// A call over a type record, other words, a store and an output.
-type Call = unsafe extern "C" fn(
-    *const u32,
-    usize,
-    *const u32,
-    usize,
-    *mut u16,
-    usize,
-    *mut u16,
-    usize,
-    *mut u32,
-    usize,
-) -> u32;
+/// A function, and an array for the numbers beside its statements; 0 or the refusal.
+pub fn exported(
+    types: &[u32],
+    function: &[u32],
+    forms: &mut [u16],
+    whats: &mut [u16],
+    out: &mut [u32],
+    told: &mut [u32],
+) -> u32 {
+    // SAFETY: What the call is owed: pointers that are aligned and hold as many words as their
+    // lengths say, that nobody else writes during the call, and of which nobody else reads the last
+    // four. References to slices are all that, those of length 0 too. There is no `requires`, so any
+    // words will do.
+    // What it owes is proved of its source: it reads and writes inside the slices alone, keeps no
+    // pointer, and ends. That it has enough stack is up to `run` in `stack.rs`.
+    unsafe {
+        foreign::exports_ghost_statements(
+            types.as_ptr(),
+            types.len(),
+            function.as_ptr(),
+            function.len(),
+            forms.as_mut_ptr(),
+            forms.len(),
+            whats.as_mut_ptr(),
+            whats.len(),
+            out.as_mut_ptr(),
+            out.len(),
+            told.as_mut_ptr(),
+            told.len(),
+        )
+    }
+}
 
-/// One of the two calls of that kind, over slices as they are lent.
-fn over_store(
-    call: Call,
+/// A crate's count and records, beside which no numbers stand; 0, or the refusal and 256 times its
+/// position.
+pub fn exported_crate(
     types: &[u32],
     words: &[u32],
     forms: &mut [u16],
     whats: &mut [u16],
     out: &mut [u32],
 ) -> u32 {
-    // SAFETY: What the call is owed: pointers that are aligned and hold as many words as their
-    // lengths say, that nobody else writes during the call, and of which nobody else reads the last
-    // three. References to slices are all that, those of length 0 too. There is no `requires`, so any
-    // words will do.
-    // What it owes is proved of its source: it reads and writes inside the slices alone, keeps no
-    // pointer, and ends. That it has enough stack is up to `run` in `stack.rs`.
+    // SAFETY: As above, of five slices of which the last three are written.
     unsafe {
-        call(
+        foreign::exports_crate_statements(
             types.as_ptr(),
             types.len(),
             words.as_ptr(),
@@ -86,28 +102,6 @@ fn over_store(
             out.len(),
         )
     }
-}
-
-/// A function; 0 or the refusal.
-pub fn exported(
-    types: &[u32],
-    function: &[u32],
-    forms: &mut [u16],
-    whats: &mut [u16],
-    out: &mut [u32],
-) -> u32 {
-    over_store(foreign::exports_ghost_statements, types, function, forms, whats, out)
-}
-
-/// A crate's count and records; 0, or the refusal and 256 times its position.
-pub fn exported_crate(
-    types: &[u32],
-    words: &[u32],
-    forms: &mut [u16],
-    whats: &mut [u16],
-    out: &mut [u32],
-) -> u32 {
-    over_store(foreign::exports_crate_statements, types, words, forms, whats, out)
 }
 
 /// What `ghosts` prints of these bytes is put at the start of `text`; how long it is.

@@ -140,7 +140,7 @@ impl Open {
     /// function.write(done, Open::new().ret());
     ///
     /// let statements = ghost_statements(&types.record(), &function.record())?;
-    /// let lines = ["at 2 unfold _1", "at 31 fold _1.*", "at 9 fold _1.*", "at 32 fold _1.*"];
+    /// let lines = ["at 2 unfold _1 0", "at 31 fold _1.* -", "at 9 fold _1.* -", "at 32 fold _1.* -"];
     /// assert_eq!(statements.to_string().lines().collect::<Vec<_>>(), lines);
     /// # Ok::<(), hirvoksne::Refusal>(())
     /// ```
@@ -192,7 +192,7 @@ impl Open {
     /// let statements = ghost_statements(&types.record(), &function.record())?;
     /// // The owner of the timers is unfolded at the loop's test, and stays so through the match; it
     /// // is folded at the return, and on both ways back.
-    /// let lines = ["at 3 unfold _1.*", "at 36 fold _1.*", "at 29 fold _1", "at 35 fold _1"];
+    /// let lines = ["at 3 unfold _1.* 0", "at 36 fold _1.* -", "at 29 fold _1 -", "at 35 fold _1 -"];
     /// assert_eq!(statements.to_string().lines().collect::<Vec<_>>(), lines);
     /// # Ok::<(), hirvoksne::Refusal>(())
     /// ```
@@ -243,7 +243,8 @@ impl Switch {
 /// function.write(end, Open::new().ret());
 ///
 /// let statements = ghost_statements(&types.record(), &function.record())?;
-/// assert_eq!(statements.to_string(), "at 2 unfold _1\nat 8 fold _1\nat 9 unfold _1\n");
+/// // The last is collected at an edge: nothing is used there.
+/// assert_eq!(statements.to_string(), "at 2 unfold _1 0\nat 8 fold _1\nat 9 unfold _1 -\n");
 /// # Ok::<(), hirvoksne::Refusal>(())
 /// ```
 #[derive(Clone, Debug)]

@@ -11,16 +11,16 @@
 //! let types = [2, 2, 0, 6, 0, 2, 0, 0]; // an opaque type, and a struct of two fields
 //! let function = [2, 0, 1, 6, 0, 1, 0, 0, 0, 2, 5, 0, 5, 11, 1, 0, 0, 1, 0, 0]; // uses _1.0, _1
 //! for statement in &hirvoksne::ghost_statements(&types, &function)? {
-//!     println!("{statement}"); // at 2 unfold _1, at 4 fold _1
+//!     println!("{statement}"); // at 2 unfold _1 0, at 4 fold _1
 //! }
 //! # let statements = hirvoksne::ghost_statements(&types, &function)?;
-//! # assert_eq!(statements.to_string(), "at 2 unfold _1\nat 4 fold _1\n");
+//! # assert_eq!(statements.to_string(), "at 2 unfold _1 0\nat 4 fold _1\n");
 //! # Ok::<(), hirvoksne::Refusal>(())
 //! ```
 //!
 //! Records are laid out as document 01 says. [`Types`] and [`Function`] write them; the example
 //! beside [`Function`] is the worked example of document 01. [`crate_statements`] takes all functions of
-//! a crate at once.
+//! a crate at once. The last word of a line is what the statement tells of where it comes from, [`Told`].
 
 #![deny(unsafe_code)]
 
@@ -42,20 +42,23 @@ pub use function::{Block, Function, Label, Open, Read, Switch};
 pub use place::{Elem, Place};
 pub use refusal::Refusal;
 pub use stack::{CALLERS_BLOCKS, STACK};
-pub use statements::{read_record, Point, Statement, Statements, Stored, Verb, SHARE};
+pub use statements::{
+    read_numbered, read_record, Point, Statement, Statements, Stored, Told, Verb, SHARE,
+};
 pub use types::{Later, Pointer, Type, Types, Variant};
 pub use whole_crate::{
     crate_statements, crate_statements_into, crate_words, CrateRefusal, MOST_FUNCTIONS,
 };
 
 use exported_call::{exported, exported_ghosts, PAGE};
-use sizes::{Sizes, MAX_BLOCKS};
+use sizes::{most_statements, Sizes, MAX_BLOCKS};
 
 /// How much the statement buffer grows when it was too short.
 const GROWTH: usize = 4;
 
 /// The statements of a function, or why it is refused; never [`Refusal::ShortStore`], since the
-/// store and the statement buffer are made here, as large as they have to be.
+/// store, the statement buffer and the array for the numbers beside it are made here, as large as they
+/// have to be.
 ///
 /// A function of over [`CALLERS_BLOCKS`] blocks is run on a thread with [`STACK`] bytes of stack.
 ///
@@ -68,26 +71,50 @@ pub fn ghost_statements(types: &[u32], function: &[u32]) -> Result<Statements, R
     let mut forms = vec![0; store];
     let mut whats = vec![0; store];
     let mut record = vec![0; sizes.first_buffer().min(sizes.longest_record())];
+    let mut numbers = vec![];
     stack::run(sizes.blocks, || loop {
-        let answer = exported(types, function, &mut forms, &mut whats, &mut record);
-        // The store is large enough, so it is the buffer that isn't.
+        numbers.resize(most_statements(record.len()), 0);
+        let answer = exported(types, function, &mut forms, &mut whats, &mut record, &mut numbers);
+        // The store is large enough, and there are numbers for all that fits the buffer, so it is the
+        // buffer that isn't.
         let short = answer == Refusal::ShortStore.number();
         if !short || record.len() >= sizes.longest_record() {
             return counts(answer, &record);
         }
         record = vec![0; (record.len() * GROWTH).min(sizes.longest_record())];
     })
-    .map(|(_, entries)| {
+    .map(|(statements, entries)| {
         record.truncate(2 + 2 * entries);
         record.shrink_to_fit();
-        let list = read_record(&record).expect("the contract: a statement record");
-        Statements { record, list, join_points: sizes.join_points, forms, whats }
+        numbers.truncate(statements);
+        numbers.shrink_to_fit();
+        let list = read_numbered(&record, &numbers);
+        let list = list.expect("the contract: a statement record, and its numbers");
+        Statements { record, numbers, list, join_points: sizes.join_points, forms, whats }
     })
 }
 
-/// The same over what the caller lends: 512 entries of each store array per join point, and a buffer
-/// for the statement record. Gives the counts of statements and entries. All that is lent is written
-/// to the last word, with zeros where nothing else stands, and after a refusal with zeros alone.
+/// The same over what the caller lends: 512 entries of each store array per join point, a buffer for the
+/// statement record, and an array for the numbers beside it, one a statement. Gives the counts of
+/// statements and entries; [`read_numbered`] reads record and numbers. All that is lent is written to the
+/// last word, with zeros where nothing else stands, and after a refusal with zeros alone.
+///
+/// ```
+/// use hirvoksne::{ghost_statements_into, read_numbered, Refusal};
+///
+/// let types = [2, 2, 0, 6, 0, 2, 0, 0]; // an opaque type, and a struct of two fields
+/// let function = [2, 0, 1, 6, 0, 1, 0, 0, 0, 2, 5, 0, 5, 11, 1, 0, 0, 1, 0, 0]; // uses _1.0, _1
+/// let (mut out, mut told) = ([0; 14], [0; 2]);
+/// let counts = ghost_statements_into(&types, &function, &mut [], &mut [], &mut out, &mut told)?;
+/// assert_eq!(counts, (2, 6));
+/// let lines = read_numbered(&out, &told).unwrap();
+/// assert_eq!(lines[0].to_string(), "at 2 unfold _1 0");
+///
+/// let refused =
+///     ghost_statements_into(&types, &function, &mut [], &mut [], &mut out, &mut told[..1]);
+/// assert_eq!(refused, Err(Refusal::ShortStore));
+/// # Ok::<(), hirvoksne::Refusal>(())
+/// ```
 ///
 /// # Panics
 ///
@@ -98,9 +125,10 @@ pub fn ghost_statements_into(
     forms: &mut [u16],
     whats: &mut [u16],
     out: &mut [u32],
+    told: &mut [u32],
 ) -> Result<(usize, usize), Refusal> {
     let blocks = Sizes::of(function).blocks;
-    stack::run(blocks, || on_this_thread(types, function, forms, whats, out))
+    stack::run(blocks, || on_this_thread(types, function, forms, whats, out, told))
 }
 
 /// The same on the caller's thread, whatever its stack. A thread that has too little of it ends the
@@ -111,8 +139,9 @@ pub fn on_this_thread(
     forms: &mut [u16],
     whats: &mut [u16],
     out: &mut [u32],
+    told: &mut [u32],
 ) -> Result<(usize, usize), Refusal> {
-    counts(exported(types, function, forms, whats, out), out)
+    counts(exported(types, function, forms, whats, out, told), out)
 }
 
 /// The counts of statements and entries, which stand first in the record, or the refusal.
@@ -129,7 +158,7 @@ fn counts(answer: u32, out: &[u32]) -> Result<(usize, usize), Refusal> {
 ///
 /// ```
 /// let text = "2 2 0 6 0 2 0 0  2 0 1 6 0 1 0 0 0 2 5 0 5 11 1 0 0 1 0 0";
-/// assert_eq!(hirvoksne::ghosts(text.as_bytes()), "at 2 unfold _1\nat 4 fold _1\n");
+/// assert_eq!(hirvoksne::ghosts(text.as_bytes()), "at 2 unfold _1 0\nat 4 fold _1\n");
 /// assert_eq!(hirvoksne::ghosts(b"2 2 0 6"), "refused 1\n");
 /// ```
 ///

@@ -90,7 +90,9 @@ impl Refusal {
             }
             Refusal::NoSuchValue => "an arm's value belongs to no variant left",
             Refusal::StateFull => "a state would have over 512 nodes",
-            Refusal::ShortStore => "a lent store, statement buffer or item buffer is too short",
+            Refusal::ShortStore => {
+                "a lent store, statement buffer, array of numbers or item buffer is too short"
+            },
             Refusal::UnknownStatement => {
                 "a statement of no known kind, flag or operand count, or a constant for a place"
             }

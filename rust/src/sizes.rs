@@ -61,6 +61,12 @@ impl Sizes {
     }
 }
 
+/// How many statements a record of so many words holds at the most: each has three entries at the least, a
+/// point, a verb and a root.
+pub fn most_statements(words: usize) -> usize {
+    words.saturating_sub(2) / 6
+}
+
 /// The length that a function record's sizes as written say, whatever they are.
 fn written_length(words: &[u32]) -> Option<u64> {
     let &[locals, _, blocks, items, ..] = words else { return None };

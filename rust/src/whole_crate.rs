@@ -60,7 +60,8 @@ impl Error for CrateRefusal {}
 /// [`crate::ghost_statements`] says of each alone, with the types tested once.
 ///
 /// Of the states at join points one call keeps the last function's alone, so [`Statements::stored`]
-/// gives none of the others.
+/// gives none of the others. No numbers stand beside the records, so what a statement tells is
+/// [`crate::Told::Unknown`], and its line has no last word for it.
 ///
 /// ```
 /// use hirvoksne::{crate_statements, Function, Open, Place, Types};
@@ -138,7 +139,8 @@ fn read_records(
         used += record.len();
         let list = read_record(&record).expect("the contract: a statement record");
         let join_points = sizes.join_points;
-        Statements { record, list, join_points, forms: vec![], whats: vec![] }
+        let (numbers, forms, whats) = (vec![], vec![], vec![]);
+        Statements { record, numbers, list, join_points, forms, whats }
     });
     let mut statements: Vec<Statements> = statements.collect();
     if let Some(last) = statements.last_mut() {

@@ -1,8 +1,8 @@
 //! The wrapper: what it gives, how it sizes what it lends, and the stack.
 
 use hirvoksne::{
-    ghost_statements, ghost_statements_into, read_record, Elem, Function, Label, Open, Place,
-    Point, Refusal, Statement, Type, Types, Verb, CALLERS_BLOCKS, SHARE,
+    ghost_statements, ghost_statements_into, read_numbered, read_record, Elem, Function, Label,
+    Open, Place, Point, Refusal, Statement, Told, Type, Types, Verb, CALLERS_BLOCKS, SHARE,
 };
 
 const TYPES: [u32; 8] = [2, 2, 0, 6, 0, 2, 0, 0];
@@ -11,9 +11,9 @@ const WORKED: [u32; 38] = [
     0, 0, 1, 2, 1, 0, 3, 3, 0,
 ];
 
-fn statement(point: u32, verb: Verb, local: u32, elems: &[Elem]) -> Statement {
+fn statement(point: u32, verb: Verb, local: u32, elems: &[Elem], told: Told) -> Statement {
     let place = Place { local, elems: elems.to_vec() };
-    Statement { point: Point::BeforeItem(point), verb, place }
+    Statement { point: Point::BeforeItem(point), verb, place, told }
 }
 
 fn one_block(types: &Types, locals: &[Type], write: impl Fn(Open) -> Open) -> Result<String, u32> {
@@ -28,8 +28,13 @@ fn one_block(types: &Types, locals: &[Type], write: impl Fn(Open) -> Open) -> Re
 fn the_worked_example() {
     let statements = ghost_statements(&TYPES, &WORKED).unwrap();
     let list: Vec<_> = statements.iter().cloned().collect();
-    let [at, back, again] = [(2, Verb::Unfold), (8, Verb::Fold), (9, Verb::Unfold)];
-    assert_eq!(list, [at, back, again].map(|(item, verb)| statement(item, verb, 1, &[])));
+    let at = (2, Verb::Unfold, Told::Used(0));
+    let back = (8, Verb::Fold, Told::Used(0));
+    let again = (9, Verb::Unfold, Told::Collected);
+    let expected = [at, back, again];
+    assert_eq!(list, expected.map(|(item, verb, told)| statement(item, verb, 1, &[], told)));
+    assert_eq!(statements.to_string(), "at 2 unfold _1 0\nat 8 fold _1\nat 9 unfold _1 -\n");
+    assert_eq!(statements.numbers(), [0, 0, 255]);
     assert_eq!(statements.len(), 3);
     assert_eq!(statements.at(Point::BeforeItem(8)).count(), 1);
     assert_eq!(statements.at(Point::Entry).count(), 0);
@@ -71,7 +76,7 @@ fn entry_uses_come_first() {
     function.write(block, Open::new().used(&Place::local(1)).ret());
     function.used_at_entry(&Place::local(1).field(1));
     let statements = ghost_statements(&types.record(), &function.record()).unwrap();
-    assert_eq!(statements.to_string(), "entry unfold _1\nat 4 fold _1\n");
+    assert_eq!(statements.to_string(), "entry unfold _1 0\nat 4 fold _1\n");
 }
 
 /// A match: the arm of value 7 unfolds its variant, unrecorded; a value that no variant has is 8.
@@ -107,7 +112,7 @@ fn each_refusal_of_the_call() {
     let wide = types.structure(&vec![int; 509]);
     let locals = [int, pair, list, wide];
     let refused = |place: Place| one_block(&types, &locals, |block| block.used(&place));
-    assert_eq!(refused(Place::local(1).field(1)), Ok("at 2 unfold _1\n".to_string()));
+    assert_eq!(refused(Place::local(1).field(1)), Ok("at 2 unfold _1 0\n".to_string()));
     assert_eq!(refused(Place::local(4)), Err(4));
     assert_eq!(refused(Place::local(1).deref()), Err(5));
     assert_eq!(refused(Place::local(3).field(0)), Err(9));
@@ -133,23 +138,57 @@ fn numbers_and_words() {
 
 #[test]
 fn lent_buffers() {
-    let call = |store: [usize; 2], room: usize| {
-        let (mut forms, mut whats) = (vec![7; store[0]], vec![7; store[1]]);
-        let mut out = vec![7; room];
-        let answer = ghost_statements_into(&TYPES, &WORKED, &mut forms, &mut whats, &mut out);
-        (answer, forms, whats, out)
-    };
-    let (answer, forms, whats, out) = call([SHARE + 1, SHARE], 22);
+    let Left { answer, forms, whats, out, told } = lent(&WORKED, [SHARE + 1, SHARE, 22, 5]);
     assert_eq!(answer, Ok((3, 9)));
     assert_eq!(out[18..], [0, 1, 0, 0]);
+    assert_eq!(told, [0, 0, 255, 0, 0]);
     assert_eq!((forms[1], forms[SHARE], &whats[..]), (2, 0, &[0; SHARE][..]));
-    for (store, room) in [([SHARE - 1, SHARE], 20), ([SHARE, SHARE - 1], 20), ([SHARE; 2], 19)] {
-        let (answer, forms, whats, out) = call(store, room);
-        assert_eq!(answer, Err(Refusal::ShortStore));
-        assert!(forms.iter().chain(&whats).all(|&word| word == 0));
-        assert!(out.iter().all(|&word| word == 0));
+    for room in [
+        [SHARE - 1, SHARE, 20, 3],
+        [SHARE, SHARE - 1, 20, 3],
+        [SHARE, SHARE, 19, 3],
+        [SHARE, SHARE, 20, 2],
+        [SHARE, SHARE, 20, 0],
+        [SHARE, SHARE, 19, 2],
+        [0; 4],
+    ] {
+        assert_eq!(lent(&WORKED, room).answer, Err(Refusal::ShortStore), "{room:?}");
     }
-    assert_eq!(call([SHARE; 2], 20).0, Ok((3, 9)));
+    assert_eq!(lent(&WORKED, [SHARE, SHARE, 20, 3]).answer, Ok((3, 9)));
+}
+
+/// The answer, and what was lent.
+struct Left {
+    answer: Result<(usize, usize), Refusal>,
+    forms: Vec<u16>,
+    whats: Vec<u16>,
+    out: Vec<u32>,
+    told: Vec<u32>,
+}
+
+/// By a call over arrays of these lengths: zeros after a refusal.
+fn lent(function: &[u32], room: [usize; 4]) -> Left {
+    let [mut forms, mut whats] = [room[0], room[1]].map(|length| vec![7; length]);
+    let [mut out, mut told] = [room[2], room[3]].map(|length| vec![7; length]);
+    let answer =
+        ghost_statements_into(&TYPES, function, &mut forms, &mut whats, &mut out, &mut told);
+    if answer.is_err() {
+        assert!(forms.iter().chain(&whats).all(|&word| word == 0));
+        assert!(out.iter().chain(&told).all(|&word| word == 0));
+    }
+    Left { answer, forms, whats, out, told }
+}
+
+/// A short array for the numbers is found last: after whatever else is refused.
+#[test]
+fn short_numbers_are_found_last() {
+    let mut wrong = WORKED;
+    let ops_at = 4 + 2 + 8;
+    wrong[ops_at + 1] = 1; // _1.* for _1.0
+    assert_eq!(lent(&wrong, [SHARE, SHARE, 20, 0]).answer, Err(Refusal::WrongStep));
+    assert_eq!(lent(&wrong[1..], [SHARE, SHARE, 20, 0]).answer, Err(Refusal::BadFunction));
+    let quiet = [1, 0, 1, 1, 0, 0, 0, 11, 0];
+    assert_eq!(lent(&quiet, [0, 0, 2, 0]).answer, Ok((0, 0)));
 }
 
 /// A hundred edges with 250 statements each: the buffer that is tried first is too short.
@@ -171,6 +210,9 @@ fn the_buffer_grows() {
     assert_eq!(statements.len(), 250 + 100 * 250);
     assert!(statements.record().len() > 200_000);
     assert_eq!(read_record(statements.record()).unwrap().len(), statements.len());
+    assert_eq!(statements.numbers().len(), statements.len());
+    let at_edges = statements.iter().filter(|statement| statement.told == Told::Collected);
+    assert_eq!(at_edges.count(), 100 * 250);
 }
 
 /// All uses of the entry are at one point, which so has as many statements as there are uses, and those of
@@ -191,6 +233,7 @@ fn many_statements_at_the_entry() {
     let statements = ghost_statements(&types.record(), &function.record()).unwrap();
     assert_eq!(statements.at(Point::Entry).count(), 2001);
     assert_eq!(statements.len(), 2001);
+    assert_eq!(statements.iter().last().unwrap().to_string(), "entry unfold _1 -");
 }
 
 /// On a thread of 768 KB the call has a stack of its own, or needs little.
@@ -211,13 +254,14 @@ fn long_chains_on_a_small_stack() {
     let small = std::thread::Builder::new().stack_size(768 << 10);
     let calls = move || [CALLERS_BLOCKS as u32, CALLERS_BLOCKS as u32 + 1, 256].map(chain);
     let answers = small.spawn(calls).unwrap().join().unwrap();
-    assert_eq!(answers, ["at 2 unfold _1\n"; 3]);
+    assert_eq!(answers, ["at 2 unfold _1 0\n"; 3]);
 }
 
 #[test]
 fn no_statement_record() {
     let good = [1, 3, 13, 16, 0, 2, 0, 1];
-    assert_eq!(read_record(&good).unwrap(), [statement(2, Verb::Unfold, 1, &[])]);
+    let unknown = statement(2, Verb::Unfold, 1, &[], Told::Unknown);
+    assert_eq!(read_record(&good).unwrap(), [unknown]);
     let spoilt = |at: usize, word: u32| {
         let mut words = good;
         words[at] = word;
@@ -228,4 +272,48 @@ fn no_statement_record() {
     }
     assert_eq!(read_record(&[]), None);
     assert_eq!(read_record(&[0, 0]), Some(vec![]));
+}
+
+/// Where an opening began: behind a step that was passed, at a downcast, and never at what is collected.
+#[test]
+fn where_the_opening_began() {
+    let mut types = Types::new();
+    let int = types.opaque();
+    let pair = types.structure(&[int, int]);
+    let lent = types.mut_ref(pair);
+    let [nil, cons] = [types.variant(0, &[]), types.variant(1, &[lent])];
+    let list = types.enumeration(&[nil, cons]);
+    let head = Place::local(1).downcast(1).field(0);
+    let uses = [head.clone().deref().field(0), head.clone().deref(), head.deref().field(1)];
+    let mut function = Function::new(int, &[list], &[]);
+    let block = function.block();
+    let body = uses.iter().fold(Open::new(), |block, place| block.used(place));
+    function.write(block, body.ret());
+    let statements = ghost_statements(&types.record(), &function.record()).unwrap();
+    let told: Vec<Told> = statements.iter().map(|statement| statement.told).collect();
+    assert_eq!(told, [Told::Used(0), Told::Used(0), Told::Used(3), Told::Collected]);
+    assert_eq!(statements.numbers(), [0, 0, 3, 255]);
+    let text = statements.to_string();
+    let lines: Vec<&str> = text.lines().collect();
+    assert_eq!(lines[0], "at 5 unfold _1.as1.0.* 0");
+    assert_eq!(lines[1], "at 10 fold _1.as1.0.*");
+    assert_eq!(lines[2], "at 16 unfold _1.as1.0.* 3");
+    assert_eq!(lines[3], "at 17 fold _1.as1.0.* -");
+}
+
+#[test]
+fn a_record_and_its_numbers() {
+    // at 2 unfold _1.0, at 6 fold _1
+    let record = [2, 7, 13, 16, 0, 2, 13, 15, 0, 2, 0, 1, 0, 6, 0, 1];
+    let told = |numbers: &[u32]| {
+        let list = read_numbered(&record, numbers)?;
+        Some(list.into_iter().map(|statement| statement.told).collect::<Vec<_>>())
+    };
+    assert_eq!(told(&[1, 0]), Some(vec![Told::Used(1), Told::Used(0)]));
+    assert_eq!(told(&[255, 255, 9]), Some(vec![Told::Collected; 2]), "what is behind them");
+    for numbers in [&[][..], &[0], &[2, 0], &[256, 0], &[0, 1], &[0, 254], &[u32::MAX, 0]] {
+        assert_eq!(told(numbers), None, "{numbers:?}");
+    }
+    assert_eq!(read_numbered(&record[1..], &[0, 0]), None);
+    assert_eq!(read_numbered(&[0, 0], &[]), Some(vec![]));
 }

@@ -2,7 +2,7 @@
 
 use hirvoksne::{
     crate_statements, crate_statements_into, crate_words, ghost_statements, CrateRefusal, Refusal,
-    Statements, SHARE,
+    Statement, Statements, Told, SHARE,
 };
 
 /// Document 01's worked example.
@@ -16,8 +16,11 @@ const OPENS: [u32; 16] = [2, 0, 1, 4, 0, 1, 0, 0, 0, 2, 5, 11, 1, 0, 0, 0];
 /// Uses `*_1`.
 const WRONG: [u32; 16] = [2, 0, 1, 4, 0, 1, 0, 0, 0, 1, 5, 11, 1, 0, 0, 0];
 
-fn texts(statements: &[Statements]) -> Vec<String> {
-    statements.iter().map(ToString::to_string).collect()
+/// The lines of each function, without what the numbers beside a record tell.
+fn texts(statements: &[Statements]) -> Vec<Vec<String>> {
+    let text =
+        |statement: &Statement| Statement { told: Told::Unknown, ..statement.clone() }.to_string();
+    statements.iter().map(|list| list.iter().map(text).collect()).collect()
 }
 
 fn refused(functions: &[&[u32]]) -> (usize, Refusal) {
@@ -36,13 +39,25 @@ fn each_as_alone() {
     }
 }
 
+/// No numbers stand beside a crate's records.
+#[test]
+fn no_numbers() {
+    let together = crate_statements(&TYPES, &[&OPENS[..], &WORKED]).unwrap();
+    for list in &together {
+        assert_eq!(list.numbers(), []);
+        assert!(list.iter().all(|statement| statement.told == Told::Unknown));
+    }
+    assert_eq!(together[1].to_string(), "at 2 unfold _1\nat 8 fold _1\nat 9 unfold _1\n");
+}
+
 /// Only the last function's states are kept.
 #[test]
 fn stored() {
     let alone = ghost_statements(&TYPES, &WORKED).unwrap();
     let functions: [&[u32]; 2] = [&OPENS, &WORKED];
     let last = crate_statements(&TYPES, &functions).unwrap().pop().unwrap();
-    assert_eq!(last, alone);
+    assert_eq!(last.record(), alone.record());
+    assert_eq!(last.stored(3), alone.stored(3));
     assert!(last.stored(3).is_some());
     let functions: [&[u32]; 2] = [&WORKED, &OPENS];
     let together = crate_statements(&TYPES, &functions).unwrap();

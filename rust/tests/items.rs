@@ -138,5 +138,5 @@ fn a_block() {
         record(Open::new().read(&place).note(&seen), Open::new().used(&field).used(&seen));
     assert_eq!(by_statements, by_uses);
     let statements = ghost_statements(&types.record(), &by_statements).expect("accepted");
-    assert_eq!(statements.to_string(), "at 15 fold _1\nat 8 fold _1\n");
+    assert_eq!(statements.to_string(), "at 15 fold _1 -\nat 8 fold _1 -\n");
 }

@@ -19,15 +19,18 @@ fn print_usage(u: Usage) {
         Projected::Nothing => {
             print_number(0);
             print_number(0);
+            print_number(u.passed);
         }
         Projected::Fold => {
             print_number(0);
             print_number(1);
+            print_number(u.passed);
         }
         Projected::Unfold(n) => {
             print_number(0);
             print_number(2);
             print_number(n);
+            print_number(u.passed);
         }
     }
     let s = u.state;

@@ -42,8 +42,16 @@ fn print_lent(forms: &[u16], whats: &[u16], out: &[u32]) {
     print_halves(whats);
 }
 
-fn function(types: &[u32], fun: &[u32], forms: &mut [u16], whats: &mut [u16], out: &mut [u32]) {
-    let r = ghost_statements(types, fun, forms, whats, out);
+// The numbers stand last.
+fn function(
+    types: &[u32],
+    fun: &[u32],
+    forms: &mut [u16],
+    whats: &mut [u16],
+    out: &mut [u32],
+    told: &mut [u32],
+) {
+    let r = ghost_statements(types, fun, forms, whats, out, told);
     match r {
         Ghosts::Refused(n) => print_number(wide(n)),
         Ghosts::Done {
@@ -56,6 +64,7 @@ fn function(types: &[u32], fun: &[u32], forms: &mut [u16], whats: &mut [u16], ou
         }
     }
     print_lent(forms, whats, out);
+    print_words(told);
 }
 
 fn functions(types: &[u32], words: &[u32], forms: &mut [u16], whats: &mut [u16], out: &mut [u32]) {
@@ -77,29 +86,40 @@ fn answered(
     forms: &mut [u16],
     whats: &mut [u16],
     out: &mut [u32],
+    told: &mut [u32],
 ) {
     if which == 3 {
-        function(types, words, forms, whats, out);
+        function(types, words, forms, whats, out, told);
         return;
     }
     functions(types, words, forms, whats, out);
 }
 
-// The lengths of the store's arrays and of the buffer, then the type record and the function's, or a crate's count and records.
+// How many lengths stand before the records: a crate has no array for numbers.
+fn lengths(which: u32) -> usize {
+    if which == 3 { 4 } else { 3 }
+}
+
+// The lengths of the store's arrays and of the buffer, and of a function of the array for the numbers; then the type record and the function's,
+// or a crate's count and records.
 pub fn call(which: u32, words: &[u32]) {
     let mut forms = store();
     let mut whats = store();
     let mut out = buffer();
+    let mut told = buffer();
     let f = least(number(words, 0, 0), 16384);
     let w = least(number(words, 0, 1), 16384);
     let o = least(number(words, 0, 2), 4096);
-    let a = end_of(words, 3);
+    let n = least(number(words, 0, 3), 4096);
+    let h = lengths(which);
+    let a = end_of(words, h);
     answered(
         which,
-        list(words, 3),
+        list(words, h),
         list(words, a),
         &mut forms[..f],
         &mut whats[..w],
         &mut out[..o],
+        &mut told[..n],
     );
 }

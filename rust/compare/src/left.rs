@@ -2,27 +2,28 @@
 
 use std::fmt::Debug;
 
-/// Answer, both store arrays, and the statement buffer or output.
+/// Answer, both store arrays, the statement buffer or output, and the numbers beside it, if they are lent.
 pub struct Left<A> {
     pub answer: A,
     pub forms: Vec<u16>,
     pub whats: Vec<u16>,
     pub out: Vec<u32>,
+    pub told: Vec<u32>,
 }
 
 impl<A: PartialEq + Debug> Left<A> {
     /// By a call to which arrays of these lengths are lent, full of a byte, so that what isn't written
     /// shows.
     pub fn by(
-        room: [usize; 3],
+        room: [usize; 4],
         byte: u8,
-        call: impl FnOnce(&mut [u16], &mut [u16], &mut [u32]) -> A,
+        call: impl FnOnce(&mut [u16], &mut [u16], &mut [u32], &mut [u32]) -> A,
     ) -> Left<A> {
-        let half = u16::from_ne_bytes([byte; 2]);
+        let (half, word) = (u16::from_ne_bytes([byte; 2]), u32::from_ne_bytes([byte; 4]));
         let (mut forms, mut whats) = (vec![half; room[0]], vec![half; room[1]]);
-        let mut out = vec![u32::from_ne_bytes([byte; 4]); room[2]];
-        let answer = call(&mut forms, &mut whats, &mut out);
-        Left { answer, forms, whats, out }
+        let (mut out, mut told) = (vec![word; room[2]], vec![word; room[3]]);
+        let answer = call(&mut forms, &mut whats, &mut out, &mut told);
+        Left { answer, forms, whats, out, told }
     }
 
     /// The first difference of the library's from the oracle's.
@@ -33,6 +34,7 @@ impl<A: PartialEq + Debug> Left<A> {
         word("store forms", &self.forms, &oracle.forms)
             .or_else(|| word("store whats", &self.whats, &oracle.whats))
             .or_else(|| word("buffer", &self.out, &oracle.out))
+            .or_else(|| word("numbers", &self.told, &oracle.told))
     }
 }
 

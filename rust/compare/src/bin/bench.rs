@@ -1,6 +1,6 @@
 //! How fast the library is, as a ratio to the transcription: the same inputs in one process, both
 //! built for release, medians over repeats. Both sides read the records, test them, and clear what is
-//! lent: exactly enough store, and a buffer of the record's own length.
+//! lent: exactly enough store, a buffer of the record's own length, and a number for each statement.
 //!
 //! ```text
 //! bench [--only NAME] [--repeats N]
@@ -18,7 +18,8 @@ use compare::{
     options::Options,
 };
 use hirvoksne::{
-    crate_statements, crate_statements_into, crate_words, on_this_thread, statement_list, SHARE,
+    crate_statements, crate_statements_into, crate_words, on_this_thread, statement_list,
+    Statements, SHARE,
 };
 
 /// One side's call over what is lent.
@@ -28,17 +29,20 @@ struct Lent {
     forms: Vec<u16>,
     whats: Vec<u16>,
     out: Vec<u32>,
+    told: Vec<u32>,
 }
 
 fn library(input: &Input, lent: &mut Lent) -> Result<(usize, usize), u32> {
-    let Lent { forms, whats, out } = lent;
-    let answer = hirvoksne::on_this_thread(&input.types, &input.function, forms, whats, out);
+    let Input { types, function } = input;
+    let Lent { forms, whats, out, told } = lent;
+    let answer = hirvoksne::on_this_thread(types, function, forms, whats, out, told);
     answer.map_err(|refusal| refusal.number())
 }
 
 fn transcription(input: &Input, lent: &mut Lent) -> Result<(usize, usize), u32> {
-    let Lent { forms, whats, out } = lent;
-    let answer = oracle::calls::ghost_statements(&input.types, &input.function, forms, whats, out);
+    let Input { types, function } = input;
+    let Lent { forms, whats, out, told } = lent;
+    let answer = oracle::calls::ghost_statements(types, function, forms, whats, out, told);
     answer.map_err(|refusal| refusal.number())
 }
 
@@ -57,8 +61,8 @@ impl Bench {
             let statements = hirvoksne::ghost_statements(&input.types, &input.function);
             let statements = statements.expect("accepted");
             let store = vec![0; statements.join_points().len() * SHARE];
-            let out = vec![0; statements.record().len()];
-            (input, Lent { forms: store.clone(), whats: store, out })
+            let (out, told) = (vec![0; statements.record().len()], vec![0; statements.len()]);
+            (input, Lent { forms: store.clone(), whats: store, out, told })
         });
         Bench { name, what, calls: calls.collect() }
     }
@@ -133,6 +137,7 @@ fn print_crate(functions: usize, repeats: usize) {
     let (mut forms, mut whats) = (vec![0; joins * SHARE], vec![0; joins * SHARE]);
     let words = statements.iter().map(|list| list.record().len()).sum();
     let mut out = vec![0; words];
+    let mut told = vec![0; statements.iter().map(Statements::len).max().unwrap_or(0)];
     let crate_words = crate_words(&records);
     let [together, alone, ratio] = medians(repeats, 1, |side| match side {
         0 => {
@@ -145,7 +150,8 @@ fn print_crate(functions: usize, repeats: usize) {
             let mut used = 0;
             for record in &records {
                 let room = &mut out[used..];
-                let answer = on_this_thread(&types, record, &mut forms, &mut whats, room);
+                let answer =
+                    on_this_thread(&types, record, &mut forms, &mut whats, room, &mut told);
                 used += 2 + 2 * black_box(answer).expect("accepted").1;
             }
         }

@@ -1,6 +1,6 @@
 //! The library against the transcription: the same words in, the same words out, to the last:
-//! refusal, counts, both store arrays and the buffer; then the safe call, whose answer and text are
-//! compared too. So with lists of statements: refusal, count and buffer, and the safe call's items; and
+//! refusal, counts, both store arrays, the buffer and the numbers beside it; then the safe call, whose
+//! answer, text and numbers are compared too. So with lists of statements: refusal, count and buffer, and the safe call's items; and
 //! with crates: refusal and position, and the text of each function.
 //!
 //! ```text
@@ -69,13 +69,13 @@ struct Tally {
 struct Input<'a> {
     types: &'a [u32],
     function: &'a [u32],
-    /// The lengths of the two store arrays and of the buffer.
-    room: [usize; 3],
+    /// The lengths of the two store arrays, of the buffer and of the array for the numbers.
+    room: [usize; 4],
 }
 
 impl<'a> Input<'a> {
     fn of(case: &'a Case) -> Input<'a> {
-        let room = [0, 1, 2].map(|at| case.room.get(at).copied().unwrap_or(600));
+        let room = [0, 1, 2, 3].map(|at| case.room.get(at).copied().unwrap_or(600));
         Input { types: &case.types, function: &case.function, room }
     }
 }
@@ -83,26 +83,26 @@ impl<'a> Input<'a> {
 /// What both sides leave of a function.
 fn function_left(input: &Input) -> [Left<Result<(usize, usize), u32>>; 2] {
     let Input { types, function, room } = *input;
-    let library = Left::by(room, 0x55, |forms, whats, out| {
-        let answer = hirvoksne::ghost_statements_into(types, function, forms, whats, out);
+    let library = Left::by(room, 0x55, |forms, whats, out, told| {
+        let answer = hirvoksne::ghost_statements_into(types, function, forms, whats, out, told);
         answer.map_err(|refusal| refusal.number())
     });
-    let oracle = Left::by(room, 0xaa, |forms, whats, out| {
-        let answer = calls::ghost_statements(types, function, forms, whats, out);
+    let oracle = Left::by(room, 0xaa, |forms, whats, out, told| {
+        let answer = calls::ghost_statements(types, function, forms, whats, out, told);
         answer.map_err(|refusal| refusal.number())
     });
     [library, oracle]
 }
 
-/// And of a crate: the refusal and its position.
+/// And of a crate: the refusal and its position. No numbers are lent.
 fn crate_left(case: &Case) -> [Left<Result<(), (u32, usize)>>; 2] {
     let Case { types, list, .. } = case;
-    let room = Input::of(case).room;
-    let library = Left::by(room, 0x55, |forms, whats, out| {
+    let room = [case.room[0], case.room[1], case.room[2], 0];
+    let library = Left::by(room, 0x55, |forms, whats, out, _| {
         let answer = hirvoksne::crate_statements_into(types, list, forms, whats, out);
         answer.map_err(|refused| (refused.refusal.number(), refused.position))
     });
-    let oracle = Left::by(room, 0xaa, |forms, whats, out| {
+    let oracle = Left::by(room, 0xaa, |forms, whats, out, _| {
         let answer = whole_crate::crate_statements(types, list, forms, whats, out);
         answer.map(|_| ()).map_err(|(refusal, position)| (refusal.number(), position))
     });
@@ -128,15 +128,17 @@ impl Tally {
             differ(self.cases, input, &found);
         }
         let answer = oracle.answer.map(|_| {
-            let statements = GhostStatements::from_record(&oracle.out).expect("a record");
+            let Left { out, told, .. } = &oracle;
+            let statements = GhostStatements::from_record(out, told).expect("a record");
             self.given += statements.len() as u64;
-            statements.to_string()
+            (statements.to_string(), statements.numbers())
         });
         let number = *answer.as_ref().err().unwrap_or(&0);
         // The safe call makes its own room, so of a short store it says something else.
         if number != 10 {
             let safe = hirvoksne::ghost_statements(input.types, input.function);
-            let safe = safe.map(|list| list.to_string()).map_err(|refusal| refusal.number());
+            let safe = safe.map(|list| (list.to_string(), list.numbers().to_vec()));
+            let safe = safe.map_err(|refusal| refusal.number());
             if safe != answer {
                 differ(self.cases, input, &format!("safe {safe:?}\noracle {answer:?}"));
             }
@@ -210,12 +212,13 @@ fn records(words: &[u32]) -> Option<Vec<&[u32]>> {
     spare.is_empty().then_some(records)
 }
 
-/// The text of each of so many statement records one after another.
+/// The text of each of so many statement records one after another, beside which no numbers stand.
 fn texts_of(mut out: &[u32], count: usize) -> Vec<String> {
     let text = |_| {
         let (record, behind) = out.split_at(2 + 2 * out[1] as usize);
         out = behind;
-        GhostStatements::from_record(record).expect("a record").to_string()
+        let statements = GhostStatements::from_collected(record).expect("a record");
+        statements.iter().map(|(point, statement, _)| format!("{point} {statement}\n")).collect()
     };
     (0..count).map(text).collect()
 }
@@ -332,7 +335,8 @@ fn with_room(rng: &mut Rng, mut case: Case) -> Case {
     }
     if case.room.is_empty() {
         let shares = rng.weighted(&[(20, 0), (60, 2), (20, 8)]);
-        case.room = vec![shares * SHARE, shares * SHARE, rng.pick(&[0, 2, 64, 1000, 1000])];
+        let (out, told) = (rng.pick(&[0, 2, 64, 1000, 1000]), rng.pick(&[0, 1, 8, 200, 200]));
+        case.room = vec![shares * SHARE, shares * SHARE, out, told];
     }
     case
 }
@@ -345,8 +349,8 @@ fn damaged_copy(rng: &mut Rng, case: &Case) -> Case {
             damage_words(rng, record);
         }
     }
-    if rng.chance(5) {
-        let at = rng.below(3);
+    if rng.chance(8) {
+        let at = rng.below(4);
         case.room[at] = rng.below(case.room[at] + 1);
     }
     case
@@ -385,8 +389,8 @@ fn all_short(tally: &mut Tally) {
 }
 
 /// Room for so many join points and some statements.
-fn room(join_points: usize) -> [usize; 3] {
-    [join_points * SHARE, join_points * SHARE, 128]
+fn room(join_points: usize) -> [usize; 4] {
+    [join_points * SHARE, join_points * SHARE, 128, 21]
 }
 
 /// Function records of one or two locals, blocks and items. Each word but the sizes goes over all that can

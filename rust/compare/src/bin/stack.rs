@@ -9,10 +9,11 @@ use hirvoksne::SHARE;
 
 /// The call on this very thread.
 fn call(input: &Input) {
-    let mut out = vec![0; 1 << 20];
+    let (mut out, mut told) = (vec![0; 1 << 20], vec![0; 1 << 18]);
     let (mut forms, mut whats) = ([0; SHARE], [0; SHARE]);
     let Input { types, function } = input;
-    let answer = hirvoksne::on_this_thread(types, function, &mut forms, &mut whats, &mut out);
+    let answer =
+        hirvoksne::on_this_thread(types, function, &mut forms, &mut whats, &mut out, &mut told);
     assert!(answer.is_ok(), "{answer:?}");
 }
 
