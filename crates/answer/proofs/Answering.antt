@@ -1,11 +1,11 @@
 -- What is printed of the call's answer and of its buffer is model's text of what is found.
 use mathlib.Core.Path.{_≡_, refl, sym, ap, _∙_}
 use mathlib.Core.Bool.{Bool, true, false, true≢false}
-use mathlib.Core.List.{List, [], _∷_}
+use mathlib.Core.List.{List}
 use Prim.Native.Nat.{ℕ, _+_, _*_, _^_, _<_, _≤_}
 use native.Mathlib.Omega.{arith}
 use lib.Dec.{eqb, ltb, leb}
-use lib.ListN.{length, take, length-append}
+use lib.ListN.{length, take}
 use borrow.Author.Tests.{eqb-true, ltb-true, leb-true, le-leb, lt-leb}
 use Rattle.model.specs.Words.{word}
 use Rattle.model.specs.Answer.{refused, done}
@@ -22,7 +22,7 @@ use Rattle.model.specs.Ghosts.{types-length, function-words, analysed, answer-t
 use Rattle.base.specs.Tests.{split, and-left}
 use Rattle.base.specs.Answer.{split-answer}
 use Rattle.model.specs.Promised.{Answered}
-use Rattle.records.specs.Recorded.{length-line}
+use Rattle.records.specs.Recorded.{lines-few}
 use Rattle.records.specs.Scanned.{scan-pieces, joined}
 use Rattle.demand.specs.Whole.{found-passed}
 use Rattle.demand.specs.Told.{needed, told-enough}
@@ -47,14 +47,8 @@ pub record Recorded (Γ fn out told : List ℕ) : Type 0 where
   pub numbers-are : told ≡ lent 341 (numbers lines)
   pub text : answer-text (entry-point fn) (found Γ fn ghosts-store ghosts-store ghosts-buffer) ≡ lines-text (entry-point fn) lines
 
--- a line has three entries and more
-lines-few : (entry : ℕ) (ls : List (Line At)) → 3 * length ls ≤ length (entries entry ls)
-unfolding entries
-lines-few entry [] = omega arith
-lines-few entry (l ∷ ls) = rw length-append (omega (arith, lines-few entry ls, length-line entry l))
-
 module _ (Γ fn : List ℕ) where
-  -- so there is room for their numbers
+  -- there is room for the numbers
   numbers-fit : needed (found Γ fn ghosts-store ghosts-store ghosts-buffer) ≤ 341
   unfolding writable
   numbers-fit = split-answer (found Γ fn ghosts-store ghosts-store ghosts-buffer)

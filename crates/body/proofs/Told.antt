@@ -12,10 +12,11 @@ use lib.Seq.{take-all}
 use Rattle.model.specs.Answer.{refused, done}
 use Rattle.model.specs.State.{pairs}
 use Rattle.model.specs.Tree.{Forest, unfolded}
-use Rattle.model.specs.Place.{Place, Spot, Verb, Fold, Unfold, At, base}
+use Rattle.model.specs.Place.{Spot, Fold, Unfold, At, base}
 use Rattle.model.specs.Walk.{projection, changed, reached, passed, pick}
 use Rattle.model.specs.Frame.{mark}
 use Rattle.model.specs.Record.{Entry, elem-entry, verb-entry, point-entry}
+use Rattle.model.specs.Told.{of-use}
 use Rattle.model.specs.Calls.{Recorded, nothing, fold, unfold-at, recorded-verb, recorded-as, spot-of}
 use Rattle.base.specs.Tests.{clash}
 use Rattle.base.specs.Answer.{good-at, split-answer}
@@ -55,10 +56,6 @@ module _ (ops args : List ℕ) (q : Spot) (is : spot-of ops args ≡ some q) whe
 
 -- THE ANSWERS
 
--- the statement of a verb on a spot, and what is told beside it
-abbrev statement : Spot → Verb → Place → ℕ → At
-statement q v p m = record { number = q .local; what = record { verb = v; place = p; told = m } }
-
 -- what is recorded, by the walk's number and its two flags
 abbrev recorded-by : Spot → ℕ → Bool → Bool → List At
 recorded-by q m b u = map (numbered (q .local))
@@ -72,7 +69,7 @@ by-nothing q m false true e = clash (cc)
 by-nothing q m false false e = refl
 
 -- a fold
-by-fold : (q : Spot) (m : ℕ) (b u : Bool) → recorded (recorded-as (recorded-by q m b u)) ≡ Folds → recorded-by q m b u ≡ statement q Fold (q .place) 0 ∷ []
+by-fold : (q : Spot) (m : ℕ) (b u : Bool) → recorded (recorded-as (recorded-by q m b u)) ≡ Folds → recorded-by q m b u ≡ of-use q Fold (q .place) 0 ∷ []
 unfolding recorded-as recorded-verb
 by-fold q m true u e = clash (cc)
 by-fold q m false true e = refl
@@ -80,7 +77,7 @@ by-fold q m false false e = clash (cc)
 
 -- an unfold
 by-unfold : (q : Spot) (m : ℕ) (b u : Bool) (n : ℕ) → recorded (recorded-as (recorded-by q m b u)) ≡ Unfolds n
-    → (recorded-by q m b u ≡ statement q Unfold (base (q .place)) m ∷ []) × (n ≡ length (base (q .place)))
+    → (recorded-by q m b u ≡ of-use q Unfold (base (q .place)) m ∷ []) × (n ≡ length (base (q .place)))
 unfolding recorded-as recorded-verb
 by-unfold q m true u n e = (refl, cc)
 by-unfold q m false true n e = clash (cc)
@@ -131,7 +128,7 @@ module _ (Γ : List ℕ) (q : Spot) (E : Forest) where
       (w, d, is ∙ by-nothing q number opened ended (ap (λ (l : List At). recorded (recorded-as l)) (sym is) ∙ r))
 
   -- a fold
-  pub answer-fold : projected (projection Γ q E) ≡ Folds → Answers (λ as′. as′ ≡ statement q Fold (q .place) 0 ∷ [])
+  pub answer-fold : projected (projection Γ q E) ≡ Folds → Answers (λ as′. as′ ≡ of-use q Fold (q .place) 0 ∷ [])
   answer-fold e =
       let (w, d, r) = answer-value fold e in
       let is = value-recorded d in
@@ -139,7 +136,7 @@ module _ (Γ : List ℕ) (q : Spot) (E : Forest) where
 
   -- an unfold
   pub answer-unfold : {n : ℕ} → projected (projection Γ q E) ≡ Unfolds n
-      → Answers (λ as′. (as′ ≡ statement q Unfold (base (q .place)) number ∷ []) × (n ≡ length (base (q .place))))
+      → Answers (λ as′. (as′ ≡ of-use q Unfold (base (q .place)) number ∷ []) × (n ≡ length (base (q .place))))
   answer-unfold {n} e =
       let (w, d, r) = answer-value (unfold-at n) e in
       let is = value-recorded d in
@@ -150,13 +147,13 @@ module _ (Γ : List ℕ) (q : Spot) (E : Forest) where
 
 module _ (ops args : List ℕ) (q : Spot) (is : spot-of ops args ≡ some q) (entry point : ℕ) where
   -- of a fold
-  pub fold-entries : {as′ : List At} → as′ ≡ statement q Fold (q .place) 0 ∷ []
+  pub fold-entries : {as′ : List At} → as′ ≡ of-use q Fold (q .place) 0 ∷ []
       → (length (mark point as′) ≡ 1) × (marked entry (mark point as′) ≡ point-entry entry point ∷ (15, 1) ∷ pairs (take (length ops) ops) (take (length ops) args))
   unfolding mark marked marked-line verb-entry mark-of
   fold-entries e = rw (e, items-all ops args q is) (refl, rw append-nil)
 
   -- of an unfold
-  pub unfold-entries : {as′ : List At} {m n : ℕ} → as′ ≡ statement q Unfold (base (q .place)) m ∷ [] → m < 255 → n ≡ length (base (q .place))
+  pub unfold-entries : {as′ : List At} {m n : ℕ} → as′ ≡ of-use q Unfold (base (q .place)) m ∷ [] → m < 255 → n ≡ length (base (q .place))
       → (length (mark point as′) ≡ 1) × (marked entry (mark point as′) ≡ point-entry entry point ∷ (16, suc m) ∷ pairs (take (n + 1) ops) (take (n + 1) args))
   unfolding mark marked marked-line verb-entry
   unfold-entries {m} e l d = rw (e, d, items-base ops args q is, mark-small l)

@@ -1,7 +1,7 @@
 -- The numbers beside a statement record are small (document 02, F-4): each is at most 127, or the dash.
 use mathlib.Core.Path.{_≡_, refl}
 use mathlib.Core.Bool.{true}
-use mathlib.Core.List.{List, [], _∷_}
+use mathlib.Core.List.{List}
 use mathlib.Core.Option.{Option, none, some}
 use Prim.Native.Nat.{ℕ, zero, suc, _-_, _≤_, _<_}
 use native.Mathlib.Omega.{arith}
@@ -10,7 +10,7 @@ use borrow.Author.Tests.{lt-ltb}
 use Rattle.model.specs.Words.{word}
 use Rattle.model.specs.Answer.{Answer, refused, done}
 use Rattle.model.specs.Tree.{Forest, leaves}
-use Rattle.model.specs.Place.{deref, field, downcast, index, Place, Spot, At, walked, used-ok}
+use Rattle.model.specs.Place.{Place, Spot, At, walked, no-index, used-ok}
 use Rattle.model.specs.Function.{nlocals, nargs, nblocks, stop, local-types}
 use Rattle.model.specs.Block.{Station, entry-uses, returns, targets, matched}
 use Rattle.model.specs.Frame.{Line, mark, Work}
@@ -22,10 +22,11 @@ use Rattle.model.specs.Told.{number-ok, Tells, tells-nothing, tells-fold, tells
 use Rattle.base.specs.Tests.{split}
 use Rattle.base.specs.Answer.{Good, good-bind, good-done, good-self, good-at, then-done}
 use Rattle.base.specs.Each.{Each, each-none, each-more, each-append, each-map}
-use Rattle.laws.specs.Places.{used-limits}
+use Rattle.laws.specs.Places.{walked-all, walked-less, used-limits}
 use Rattle.laws.specs.Passed.{projection-tells}
 use Rattle.laws.specs.Lifted.{Dashed, collects-dashed, folds-at-ret-dashed}
 use Rattle.records.specs.Recorded.{mark-append}
+use Rattle.solver.specs.Lines.{each-marked}
 use Rattle.solver.specs.Whole as W
 use Rattle.graph.specs.Ranges.{owner}
 use Rattle.graph.specs.Used.{Allowed, stations-used, entry-used}
@@ -40,12 +41,7 @@ Small l = number-ok (l .stmt .what .told) ≡ true
 
 -- what is walked is no longer than the place
 walked-short : (p : Place) → length (walked p) ≤ length p
-unfolding walked
-walked-short [] = omega arith
-walked-short (deref ∷ p) = omega (arith, walked-short p)
-walked-short (field i ∷ p) = omega (arith, walked-short p)
-walked-short (downcast v ∷ p) = omega (arith, walked-short p)
-walked-short (index ∷ p) = omega arith
+walked-short p = split (no-index p) (λ e. omega (arith, walked-all p e)) (λ e. omega (arith, walked-less p e))
 
 -- a number below 128 is small
 below-small : (n : ℕ) → n < 128 → number-ok n ≡ true
@@ -53,9 +49,7 @@ below-small n l = rw (lt-ltb n 128 l) refl
 
 -- what is collected
 dashed-small : (i : ℕ) {ts : List At} → Each Dashed ts → Each Small (mark i ts)
-unfolding mark
-dashed-small i each-none = each-none
-dashed-small i (each-more {a} e es) = each-more {a = record { point = i; stmt = a }} (rw e refl) (dashed-small i es)
+dashed-small i h = each-marked i (λ t e. rw e refl) h
 
 module _ (Γ fn : List ℕ) where
   -- what a place used records

@@ -3,10 +3,10 @@
 use mathlib.Core.Path.{_≡_, refl, sym, ap, _∙_, subst}
 use mathlib.Core.Logic.{_≢_}
 use mathlib.Core.Bool.{Bool, true, false}
-use mathlib.Core.List.{List, [], _∷_}
+use mathlib.Core.List.{List, []}
 use Prim.Native.Nat.{ℕ, _+_, _*_, _^_, _≤_}
 use native.Mathlib.Omega.{arith}
-use lib.ListN.{length, replicate, length-append, length-replicate}
+use lib.ListN.{length, replicate, length-replicate}
 use lib.Dec.{ltb}
 use borrow.Author.Tests.{leb-true}
 use Rattle.model.specs.Answer.{Answer, refused, done, _>>=_}
@@ -19,8 +19,9 @@ use Rattle.model.specs.Record.{entries, writable, lent}
 use Rattle.model.specs.Whole.{passes, with-buffer, shares, accepted, denied, result, shorter, found, whole}
 use Rattle.base.specs.Tests.{clash, and-left}
 use Rattle.base.specs.Answer.{split-answer}
+use Rattle.records.specs.Recorded.{lines-few}
 use Rattle.statements.specs.Kept.{room, Counted, Kept, Finished}
-use Rattle.statements.specs.Marked.{marked-line, marked, marked-record}
+use Rattle.statements.specs.Marked.{marked, marked-record}
 use Rattle.statements.specs.declared.Out.{Out}
 use Rattle.statements.proofs.Marks.{length-marked}
 use Rattle.arrival.specs.declared.jump.Visit.{Visit}
@@ -29,10 +30,8 @@ use Rattle.fold_unfold.specs.declared.Ghosts.the-variants.{Done, Refused
 use Rattle.fold_unfold.specs.Answers.{answer-of, marks-left, Marked, Checked, Analysed}
 
 -- no more statements than entries
-lines-few : (entry : ℕ) (ls : List (Line At)) → length ls ≤ length (marked entry ls)
-unfolding marked marked-line
-lines-few entry [] = omega arith
-lines-few entry (l ∷ ls) = rw length-append (omega (arith, lines-few entry ls))
+marked-few : (entry : ℕ) (ls : List (Line At)) → length ls ≤ length (marked entry ls)
+marked-few entry ls = omega (arith, lines-few entry ls, length-marked entry ls)
 
 -- an array of zeros, by its own length
 pub own-zeros : {l : List ℕ} (m : List ℕ) → l ≡ replicate (length m) 0 → l ≡ replicate (length l) 0
@@ -114,7 +113,7 @@ module _ {Γ fn fs ws out points : List ℕ} {r : ℕ} (C : Checked Γ fn (lengt
         unfolding with-buffer
         buffer-refuses d zf zw = accepts (λ f q c k.
             let es = marked (entry-point fn) (f .lines) in
-            let w : b ≡ writable (length out₂) es = F (length (f .lines)) es .answer k (lines-few (entry-point fn) (f .lines)) in
+            let w : b ≡ writable (length out₂) es = F (length (f .lines)) es .answer k (marked-few (entry-point fn) (f .lines)) in
             let p = found-passed Γ fn (length fs) (length ws) (length out) C z in
             let u : writable (length out) (entries (entry-point fn) (f .lines)) ≡ false = writable-marked (entry-point fn) (f .lines) (A .same-out) ∙ sym w ∙ d in
             marked-refused (cc) (zf ∙ rw (A .same-forms)) (zw ∙ rw (A .same-whats)) (F 0 [] .zeroed d ∙ rw (A .same-out)))
@@ -124,7 +123,7 @@ module _ {Γ fn fs ws out points : List ℕ} {r : ℕ} (C : Checked Γ fn (lengt
         unfolding with-buffer writable room
         record-written d = accepts (λ f q c k.
             let es = marked (entry-point fn) (f .lines) in
-            let few = lines-few (entry-point fn) (f .lines) in
+            let few = marked-few (entry-point fn) (f .lines) in
             let w : writable (length out₂) es ≡ true = sym (F (length (f .lines)) es .answer k few) ∙ d in
             let p = found-passed Γ fn (length fs) (length ws) (length out) C z in
             let u : writable (length out) (entries (entry-point fn) (f .lines)) ≡ true = writable-marked (entry-point fn) (f .lines) (A .same-out) ∙ w in

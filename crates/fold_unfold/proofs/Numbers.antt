@@ -3,7 +3,7 @@
 use mathlib.Core.Path.{_≡_, refl, sym, ap, _∙_}
 use mathlib.Core.Bool.{true, false}
 use mathlib.Core.List.{List, [], _++_, map}
-use Prim.Native.Nat.{ℕ, zero, suc, _+_, _-_, _≤_}
+use Prim.Native.Nat.{ℕ, _+_, _-_, _≤_}
 use native.Mathlib.Nat.{zero-add}
 use native.Mathlib.Omega.{arith}
 use lib.ListN.{length, drop, replicate, length-replicate, length-map}
@@ -36,20 +36,16 @@ use Rattle.statements.proofs.Marks.{lent-held, lent-told, lent-unmarked}
 use Rattle.fold_unfold.specs.declared.Ghosts.{Ghosts}
 use Rattle.fold_unfold.specs.declared.Ghosts.the-variants.{Done, Refused}
 use Rattle.fold_unfold.specs.Answers.{Whole, marks-left, Marked, Whole-told, over}
+use Rattle.fold_unfold.proofs.Begun.{zero-word}
 
 -- ZEROS are a record of no entries
-zeros-none : (n : ℕ) → word (replicate n 0) 1 ≡ 0
-zeros-none zero = refl
-zeros-none (suc zero) = refl
-zeros-none (suc (suc n)) = refl
-
 zeros-unmarked : (n : ℕ) → without-marks (replicate n 0) ≡ replicate n 0
 unfolding without-marks
-zeros-unmarked n = rw (zeros-none n) (sym (paste-zero (replicate n 0) 2 (map unmarked (entries-of (replicate n 0)))))
+zeros-unmarked n = rw (zero-word n 1) (sym (paste-zero (replicate n 0) 2 (map unmarked (entries-of (replicate n 0)))))
 
 zeros-told : (n : ℕ) → told-in (entries-of (replicate n 0)) ≡ []
 unfolding entries-of told-in pairs
-zeros-told n = rw (zeros-none n) refl
+zeros-told n = rw (zero-word n 1) refl
 
 -- NUMBERS, stored from the first entry of an array of zeros on
 told-lent : (n : ℕ) (ns : List ℕ) → length ns ≤ n → sets (replicate n 0) 0 ns ≡ lent n ns
@@ -77,7 +73,7 @@ module _ {Γ fn fs ws out fs′ ws′ out₂ : List ℕ} {r : Ghosts} (M : Marke
   -- they can be taken out
   pub marked-held : Held out₂
   marked-held = split-answer call
-      (λ n e. rw (none-left e .1, zeros-none (length out)) (omega arith))
+      (λ n e. rw (none-left e .1, zero-word (length out) 1) (omega arith))
       (λ f e. rw (some-left e .1) (lent-held (entry-point fn) (length out) (f .lines)))
 
   -- and then the record is left

@@ -49,7 +49,7 @@ pub mod Recorded
 -- the number beside an unfold says where the opening began: began, passed-all, projection-tells
 pub mod Passed
 -- no statement holds an index (collects-unindexed, folds-at-ret-unindexed), and what is collected tells a dash (collects-dashed,
--- unfoldss-dashed, folds-at-ret-dashed)
+-- folds-at-ret-dashed)
 pub mod Lifted
 -- nor what a projection records: projection-unindexed
 pub mod NoIndex

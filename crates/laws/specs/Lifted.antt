@@ -122,10 +122,6 @@ module _ (Γ : List ℕ) where
   pub collects-dashed : (E D : Forest) → Good (Each Dashed) (collects Γ E D)
   collects-dashed E D = collects-each dashed Γ E D
 
-  -- from all folded
-  pub unfoldss-dashed : (E : Forest) → Good (Each Dashed) (unfoldss Γ E)
-  unfoldss-dashed E = unfoldss-each dashed Γ E
-
   -- at return
   pub folds-at-ret-unindexed : (n : ℕ) (E : Forest) → Each Unindexed-at (folds-at-ret Γ n E)
   folds-at-ret-unindexed n E = folds-at-ret-each unindexed Γ n E

@@ -9,7 +9,7 @@ use Rattle.model.specs.Words.{word}
 use Rattle.model.specs.State.{pairs}
 use Rattle.model.specs.Record.{Entry, record-length}
 use Rattle.records.specs.Here.{firsts, seconds}
-use Rattle.records.specs.Pairs.{pairs-halves, firsts-pairs, seconds-pairs}
+use Rattle.records.specs.Pairs.{pairs-halves, firsts-pairs}
 
 -- a record's words hold as many entries as it says
 abbrev pub Whole : List ℕ → Type 0
@@ -54,11 +54,6 @@ module _ (ws : List ℕ) (h : Whole ws) where
   length-entries-of =
       let n : ℕ = word ws 1 in
       sym (length-map (entries-of ws) (λ e. e .0)) ∙ ap length (firsts-pairs (take n (drop 2 ws)) (take n (drop (2 + n) ws)) (length-ops ∙ sym length-args)) ∙ length-ops
-
-  -- their args
-  pub entries-args : seconds (entries-of ws) ≡ take (word ws 1) (drop (2 + word ws 1) ws)
-  unfolding entries-of
-  entries-args = seconds-pairs (take (word ws 1) (drop 2 ws)) (take (word ws 1) (drop (2 + word ws 1) ws)) (length-ops ∙ sym length-args)
 
   -- entry k, and those behind it
   pub entries-next : (k : ℕ) → k < word ws 1 → drop k (entries-of ws) ≡ (word ws (2 + k), word ws (2 + word ws 1 + k)) ∷ drop (suc k) (entries-of ws)

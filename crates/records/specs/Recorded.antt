@@ -109,6 +109,12 @@ module _ (entry : ℕ) where
   unfolding line-entries
   length-line l = rw length-map (omega arith)
 
+  -- so there are at most a third as many lines as entries
+  pub lines-few : (ls : List (Line At)) → 3 * length ls ≤ length (entries entry ls)
+  unfolding entries
+  lines-few [] = omega arith
+  lines-few (l ∷ ls) = rw length-append (omega (arith, lines-few ls, length-line l))
+
 -- STATEMENTS AT ONE POINT
 
 module _ {Stmt : Type 0} (i : ℕ) where

@@ -47,3 +47,10 @@ module _ {Stmt : Type 0} where
   unfolding mark
   each-mark i [] f = each-none
   each-mark i (t ∷ ts) f = each-more (f t) (each-mark i ts f)
+
+  -- if each of the statements is P
+  pub each-marked : {P : Stmt → Type 0} {Q : Line Stmt → Type 0} (i : ℕ) → ((t : Stmt) → P t → Q (record { point = i; stmt = t }))
+      → {ts : List Stmt} → Each P ts → Each Q (mark i ts)
+  unfolding mark
+  each-marked i f each-none = each-none
+  each-marked i f (each-more {a} p ps) = each-more (f a p) (each-marked i f ps)

@@ -10,7 +10,7 @@ ghost use Rattle.statements.specs.Marked.{Held, number-of, told-in, unma
 use crate::FOLD;
 
 // The number of a statement that is collected: `-`.
-const DASH: u32 = 255;
+pub const DASH: u32 = 255;
 
 // The number that a mark stands for.
 fn number_of(mark: u32) -> u32

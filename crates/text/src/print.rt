@@ -15,12 +15,10 @@ use mir::items::ROOT;
 use statements::BEFORE;
 use statements::ENTRY;
 use statements::FOLD;
+use statements::numbers::DASH;
 use type_record::record::wide;
 
 const NEWLINE: u8 = 10;
-
-// The number of a statement that is collected.
-const DASH: u32 = 255;
 
 fn put(text: &mut [u8], at: usize, c: u8) -> usize
     requires { ⌜ at + 1 ≤ length (now text) ⌝ }
