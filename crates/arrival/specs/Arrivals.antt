@@ -16,6 +16,7 @@ use Rattle.model.specs.Collect.{collects}
 use Rattle.model.specs.Function.{local-types}
 use Rattle.model.specs.Block.{entry-point}
 use Rattle.model.specs.Frame.{mark}
+use Rattle.model.specs.Rounds.{put}
 use Rattle.records.specs.Here.{Holds}
 use Rattle.state.specs.Value.{value}
 use Rattle.state.specs.declared.nodes.State.{State}
@@ -23,7 +24,7 @@ use Rattle.statements.specs.Marked.{marked}
 use Rattle.statements.specs.Kept.{Puts}
 use Rattle.statements.specs.Points.{point}
 use Rattle.statements.specs.declared.Out.{Out}
-use Rattle.arrival.specs.Shares.{Full, Saved, kept-in, visited-in}
+use Rattle.arrival.specs.Shares.{Full, Saved, kept-in, visited-in, waits-in}
 use Rattle.arrival.specs.declared.jump.Jump.{Jump}
 use Rattle.arrival.specs.declared.jump.Visit.{Visit}
 use Rattle.arrival.specs.declared.jump.Visit.the-variants.{Over, Refused}
@@ -45,13 +46,13 @@ takes Γ none E = done (E, true)
 takes Γ (some S) E = require (leb (sizes (joins Γ false S E)) most) 9 λ _. done (joins Γ false S E, (flagss Γ false S E) .0)
 
 -- so the share, its count and the waiting blocks are after it
-pub record Took (Γ locals : List ℕ) (c : ℕ) (kept waits : List ℕ) (w : Forest × Bool) (fs ws kept′ waits′ : List ℕ) : Type 0 where
+pub record Took (Γ locals : List ℕ) (c : ℕ) (kept : List ℕ) (waits : ℕ → Bool) (w : Forest × Bool) (fs ws kept′ : List ℕ) (waits′ : ℕ → Bool) : Type 0 where
   pub full : Full Γ locals fs ws (word kept′ c) (w .0)
   pub count : kept′ ≡ cond (w .1) (set kept c (suc (sizes (w .0)))) kept
-  pub waiting : waits′ ≡ cond (w .1) (set waits c 1) waits
+  pub waiting : waits′ ≡ cond (w .1) (put waits c true) waits
 
 -- r: 0, or the refusal
-pub record Arrives (Γ locals : List ℕ) (c : ℕ) (kept waits : List ℕ) (a : Answer (Forest × Bool)) (fs ws kept′ waits′ : List ℕ) (r : ℕ) : Type 0 where
+pub record Arrives (Γ locals : List ℕ) (c : ℕ) (kept : List ℕ) (waits : ℕ → Bool) (a : Answer (Forest × Bool)) (fs ws kept′ : List ℕ) (waits′ : ℕ → Bool) (r : ℕ) : Type 0 where
   pub denied : (n : ℕ) → a ≡ refused n → r ≡ n
   pub took : (w : Forest × Bool) → a ≡ done w → (r ≡ 0) × Took Γ locals c kept waits w fs ws kept′ waits′
 
@@ -70,7 +71,7 @@ Steady memo waits fs ws = Same (was memo) (after memo) (was waits) (after waits)
 abbrev pub Arriving : (Γ fn : List ℕ) (c : ℕ) → State → (memo waits fs ws : Lent) → ℕ → Type 0
 Arriving Γ fn c s memo waits fs ws r = (k : Option Forest) (E : Forest)
     → Saved Γ (local-types fn) (was fs) (was ws) (word (kept-in (was memo)) c) k → Holds Γ (local-types fn) (value s) E
-    → Arrives Γ (local-types fn) c (kept-in (was memo)) (was waits) (takes Γ k E) (after fs) (after ws) (kept-in (after memo)) (after waits) r
+    → Arrives Γ (local-types fn) c (kept-in (was memo)) (waits-in fn (was waits)) (takes Γ k E) (after fs) (after ws) (kept-in (after memo)) (waits-in fn (after waits)) r
 
 -- something is stored in the share of the block c, or nothing
 pub record Shelved (Γ fn memo fs ws : List ℕ) (c : ℕ) : Type 0 where
@@ -81,12 +82,12 @@ pub record Shelved (Γ fn memo fs ws : List ℕ) (c : ℕ) : Type 0 where
 
 -- AN ARRIVAL IN THE SECOND PASS
 
-pub record Reconciles (fn : List ℕ) (p c : ℕ) (visited waits : List ℕ) (out : List ℕ) (o : Out) (a : Answer (List At)) (waits′ out′ : List ℕ) (r : Visit) : Type 0 where
+pub record Reconciles (fn : List ℕ) (p c : ℕ) (visited : List ℕ) (waits : ℕ → Bool) (out : List ℕ) (o : Out) (a : Answer (List At)) (waits′ : ℕ → Bool) (out′ : List ℕ) (r : Visit) : Type 0 where
   pub same : length out′ ≡ length out
   pub denied : (n : ℕ) → a ≡ refused n → r ≡ Refused n
   pub told : (ts : List At) → a ≡ done ts
       → (q : Out) × (r ≡ Over q) × Puts (length ts) out o out′ q (marked (entry-point fn) (mark p ts))
-  pub waiting : (ts : List At) → a ≡ done ts → waits′ ≡ cond (eqb (word visited c) 0) (set waits c 1) waits
+  pub waiting : (ts : List At) → a ≡ done ts → waits′ ≡ cond (eqb (word visited c) 0) (put waits c true) waits
 
 -- a state is stored in the share of the block c
 pub record Filled (Γ fn memo fs ws : List ℕ) (c : ℕ) : Type 0 where
@@ -99,4 +100,4 @@ pub record Filled (Γ fn memo fs ws : List ℕ) (c : ℕ) : Type 0 where
 abbrev pub Reconciling : (Γ fn : List ℕ) (j : Jump) → State → (memo fs ws : List ℕ) (waits out : Lent) → Out → Visit → Type 0
 Reconciling Γ fn j s memo fs ws waits out o r = (S E : Forest)
     → Full Γ (local-types fn) fs ws (word (kept-in memo) (j .block)) S → Holds Γ (local-types fn) (value s) E
-    → Reconciles fn (point fn (j .entry) (j .item)) (j .block) (visited-in memo) (was waits) (was out) o (collects Γ E S) (after waits) (after out) r
+    → Reconciles fn (point fn (j .entry) (j .item)) (j .block) (visited-in memo) (waits-in fn (was waits)) (was out) o (collects Γ E S) (waits-in fn (after waits)) (after out) r

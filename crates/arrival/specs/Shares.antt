@@ -1,7 +1,7 @@
 -- The memory of a run in the code's arrays: a share of 512 entries in each store array for each join point, in block order; for each
--- block the node count plus 1 of what is stored there, or 0, and whether it was visited; which blocks wait.
+-- block the node count plus 1 of what is stored there, or 0, and whether it was visited; a bit for each waiting block, by its rank.
 use mathlib.Core.Path.{_≡_}
-use mathlib.Core.Bool.{true, false, not}
+use mathlib.Core.Bool.{Bool, true, false, not}
 use mathlib.Core.List.{List}
 use mathlib.Core.Option.{Option, none, some}
 use Prim.Native.Nat.{ℕ, suc, _*_, _-_, _≤_, _<_}
@@ -11,11 +11,12 @@ use Rattle.moments.specs.Lent.{Lent, was, after}
 use Rattle.model.specs.Words.{word}
 use Rattle.model.specs.Tree.{Forest, sizes}
 use Rattle.model.specs.State.{most, encode}
-use Rattle.model.specs.Function.{nblocks, local-types}
+use Rattle.model.specs.Function.{nblocks, rank, local-types}
 use Rattle.model.specs.Block.{is-join-point, join-points}
 use Rattle.model.specs.Rounds.{elem}
 use Rattle.laws.specs.Valid.{Valid}
 use Rattle.blocks.specs.Points.{share-number}
+use Rattle.queue.specs.Waiting.{waiting, Four}
 use Rattle.arrival.specs.Memory.{Memory}
 
 -- ONE SHARE
@@ -69,6 +70,16 @@ pub record Unvisited (memo memo′ : List ℕ) : Type 0 where
   pub kept : kept-in memo′ ≡ kept-in memo
   pub visited : visited-in memo′ ≡ replicate 256 0
 
+-- WHICH BLOCKS WAIT, as bits
+
+-- the set of waiting blocks
+abbrev pub waits-in : List ℕ → List ℕ → ℕ → Bool
+waits-in fn bits = waiting (rank fn) (nblocks fn) bits
+
+-- the words have a bit for the rank of block b
+abbrev pub Waits-for : List ℕ → ℕ → List ℕ → Type 0
+Waits-for fn b bits = (b < nblocks fn) × Four bits
+
 -- ALL ARRAYS
 
 -- the numbers of the shares, of all blocks
@@ -105,7 +116,7 @@ change memo w fs ws = record {
 pub record Long (fn : List ℕ) (a : Arrays) : Type 0 where
   pub kept : length (a .kept) ≡ 256
   pub visited : length (a .visited) ≡ 256
-  pub waits : length (a .waits) ≡ 256
+  pub waits : Four (a .waits)
   pub forms : most * join-points fn ≤ length (a .forms)
   pub whats : most * join-points fn ≤ length (a .whats)
 
@@ -127,7 +138,7 @@ pub record Remembers (Γ fn : List ℕ) (m : Memory) (a : Arrays) : Type 0 where
   pub saved : (b : ℕ) → b < nblocks fn → is-join-point fn b ≡ true
       → Saved Γ (local-types fn) (share-of (a .forms) (share-number fn b)) (share-of (a .whats) (share-number fn b)) (word (a .kept) b) (m .kept b)
   pub unsaved : (b : ℕ) → is-join-point fn b ≡ false → m .kept b ≡ none
-  pub waits : (b : ℕ) → b < nblocks fn → m .waits b ≡ not (eqb (word (a .waits) b) 0)
+  pub waits : (b : ℕ) → b < nblocks fn → m .waits b ≡ waits-in fn (a .waits) b
   pub visited : (b : ℕ) → b < nblocks fn → elem b (m .visited) ≡ not (eqb (word (a .visited) b) 0)
   -- past the shares the store is as it was lent: zeros
   pub forms-rest : drop (most * join-points fn) (a .forms) ≡ replicate (length (a .forms) - most * join-points fn) 0

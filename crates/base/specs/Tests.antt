@@ -1,13 +1,17 @@
--- Case splits that keep the equation, and what a conjunction or a disjunction says. Nothing of any record or tree. What the tests
+-- Case splits that keep the equation, what a conjunction or a disjunction says, a word that is set. Nothing of any record or tree. What the tests
 -- eqb, ltb, leb and not say is in `borrow.Author.Tests`.
-use mathlib.Core.Path.{_≡_, refl}
+use mathlib.Core.Path.{_≡_, refl, sym, ap, _∙_}
 use mathlib.Core.Logic.{_↔_}
-use mathlib.Core.Bool.{Bool, true, false, cond, _&&_, _||_}
+use mathlib.Core.Bool.{Bool, true, false, cond, not, _&&_, _||_}
+use mathlib.Core.List.{List}
 use mathlib.Core.Option.{Option, none, some}
-use Prim.Native.Nat.{ℕ}
+use Prim.Native.Nat.{ℕ, _<_}
 use native.Mathlib.Omega.{arith}
 use lib.Dec.{eqb}
-use borrow.Author.Tests.{eqb-true, eq-eqb}
+use lib.ListN.{length, set}
+use lib.Seq.{getD-set-same, getD-set-other}
+use borrow.Author.Tests.{eqb-true, eqb-false, eq-eqb}
+use Rattle.model.specs.Words.{word}
 
 -- CASES
 
@@ -75,3 +79,14 @@ eqb-same n = eq-eqb n n refl
 -- the test does not see the order
 pub eqb-sym : (m n : ℕ) → eqb m n ≡ eqb n m
 eqb-sym m n = split (eqb m n) (λ e. cc (eqb-true m n e)) (λ e. split (eqb n m) (λ d. cc (eqb-true n m d)) (λ d. cc))
+
+-- WORDS
+
+-- a word that is set, as a test
+pub set-test : (l : List ℕ) (b v c : ℕ) → b < length l → not (eqb (word (set l b v) c) 0) ≡ cond (eqb b c) (not (eqb v 0)) (not (eqb (word l c) 0))
+set-test l b v c h = split (eqb b c)
+    (λ e.
+    let q = eqb-true b c e in
+    let k : word (set l b v) c ≡ v = ap (λ (i : ℕ). word (set l b v) i) (sym q) ∙ getD-set-same l b v 0 h in
+    cc)
+    (λ e. cc (getD-set-other l b c v 0 (λ q. eqb-false b c e (sym q))))

@@ -7,7 +7,6 @@ use mathlib.Core.Option.{Option, none, some}
 use Prim.Native.Nat.{ℕ, _<_, _*_, _≤_}
 use lib.ListN.{length, replicate}
 use Rattle.moments.specs.Lent.{Lent, was, after}
-use Rattle.model.specs.Words.{word}
 use Rattle.model.specs.Answer.{Answer, refused, done, _>>=_}
 use Rattle.model.specs.Tree.{Forest, leaves}
 use Rattle.model.specs.State.{most}
@@ -19,6 +18,8 @@ use Rattle.model.specs.Rounds.{run-rounds}
 use Rattle.model.specs.Passes.{Store, solve, infer, round-two, unvisited}
 use Rattle.model.specs.Body.{enter-uses, frame}
 use Rattle.statements.specs.declared.Out.{Out}
+use Rattle.queue.specs.Bits.{no-bits}
+use Rattle.queue.specs.Waiting.{Inverse}
 use Rattle.arrival.specs.Shares.{Arrays, arrays, kept-in, Change, Remembers}
 use Rattle.arrival.specs.Visits.{Spoken, Visits}
 use Rattle.arrival.specs.declared.jump.Visit.{Visit}
@@ -88,10 +89,9 @@ abbrev pub Starts : (Γ fn : List ℕ) → Bool → Memory → Type 0
 Starts Γ fn false m = m ≡ blank
 Starts Γ fn true m = (kept : ℕ → Option Forest) × (m ≡ again kept) × Inferred Γ fn kept
 
--- the ranks of all blocks
-pub record Ranked (fn ranks : List ℕ) : Type 0 where
-  pub long : length ranks ≡ nblocks fn
-  pub ranks-are : (b : ℕ) → b < nblocks fn → word ranks b ≡ rank fn b
+-- the block of each rank
+abbrev pub Ordered : (fn blocks : List ℕ) → Type 0
+Ordered fn blocks = Inverse (rank fn) (nblocks fn) blocks
 
 -- a pass begins, and model's answer to it is not 0
 pub record Begins (Γ fn : List ℕ) (recording : Bool) (a : Arrays) : Type 0 where
@@ -109,7 +109,7 @@ pub record Opening (Γ fn : List ℕ) (recording : Bool) (a : Arrays) : Type 0 w
 
 -- the arrays with which it does: no block was visited, none waits
 abbrev pub fresh : List ℕ → List ℕ → List ℕ → Arrays
-fresh memo fs ws = arrays (kept-in memo) (replicate 256 0) (replicate 256 0) fs ws
+fresh memo fs ws = arrays (kept-in memo) (replicate 256 0) no-bits fs ws
 
 -- model's answer a to a pass, in what outlives it
 pub record Ends (Γ fn : List ℕ) (recording : Bool) (kept fs ws out : List ℕ) (a : Answer Memory) (kept′ fs′ ws′ out′ : List ℕ) (r : Visit) : Type 0 where

@@ -1,23 +1,22 @@
--- What `pop` answers, and which blocks wait after it: by model's `lowest`.
+-- What `insert` and `pop` do to the set of waiting blocks: by model's `put` and `lowest`.
 use mathlib.Core.Path.{_≡_}
-use mathlib.Core.Bool.{Bool, not}
+use mathlib.Core.Bool.{Bool, true, false}
 use mathlib.Core.List.{List}
 use mathlib.Core.Option.{Option, none, some}
-use Prim.Native.Nat.{ℕ}
-use lib.Dec.{eqb}
-use lib.ListN.{set}
-use Rattle.model.specs.Words.{word}
-use Rattle.model.specs.Rounds.{lowest}
+use Prim.Native.Nat.{ℕ, _<_}
+use Rattle.model.specs.Rounds.{lowest, put}
+use Rattle.queue.specs.Waiting.{Ranking, Inverse, waiting}
 use Rattle.queue.specs.declared.Popped.{Popped}
 use Rattle.queue.specs.declared.Popped.the-variants.{Block, Empty}
 
--- a block waits whose word is not 0
-abbrev pub waiting : List ℕ → ℕ → Bool
-waiting waits b = not (eqb (word waits b) 0)
+-- INSERT
 
--- the waiting block of lowest rank among n
-abbrev pub next : List ℕ → List ℕ → ℕ → Option ℕ
-next waits ranks n = lowest (word ranks) (waiting waits) n
+-- the block b of rank r waits too, whatever the ranks are
+abbrev pub Inserts : List ℕ → ℕ → List ℕ → Type 0
+Inserts bits r bits′ = (rank : ℕ → ℕ) (n b : ℕ) → Ranking rank n → b < n → rank b ≡ r
+    → waiting rank n bits′ ≡ put (waiting rank n bits) b true
+
+-- POP
 
 -- as the code answers it
 abbrev pub answered : Option ℕ → Popped
@@ -25,11 +24,16 @@ answered none = Empty
 answered (some b) = Block b
 
 -- without it
-abbrev pub without : List ℕ → Option ℕ → List ℕ
+abbrev pub without : (ℕ → Bool) → Option ℕ → ℕ → Bool
 without waits none = waits
-without waits (some b) = set waits b 0
+without waits (some b) = put waits b false
 
--- the next block is popped, and waits no more
-pub record Pops (waits ranks : List ℕ) (n : ℕ) (waits′ : List ℕ) (r : Popped) : Type 0 where
-  pub answer : r ≡ answered (next waits ranks n)
-  pub rest : waits′ ≡ without waits (next waits ranks n)
+-- the waiting block of lowest rank is popped, and waits no more
+pub record Pops (rank : ℕ → ℕ) (n : ℕ) (waits waits′ : ℕ → Bool) (r : Popped) : Type 0 where
+  pub answer : r ≡ answered (lowest rank waits n)
+  pub rest : waits′ ≡ without waits (lowest rank waits n)
+
+-- whatever the ranks are whose inverse is lent
+abbrev pub Popping : List ℕ → ℕ → List ℕ → List ℕ → Popped → Type 0
+Popping blocks n bits bits′ r = (rank : ℕ → ℕ) → Ranking rank n → Inverse rank n blocks
+    → Pops rank n (waiting rank n bits) (waiting rank n bits′) r
