@@ -23,7 +23,7 @@ use Rattle.blocks.specs.Points.{share-number}
 use Rattle.statements.specs.declared.Out.{Out}
 use Rattle.statements.specs.Points.{point, Tells}
 use Rattle.arrival.specs.Memory.{Memory, arrives}
-use Rattle.arrival.specs.Shares.{arrays, Remembers}
+use Rattle.arrival.specs.Shares.{waits-in, arrays, Remembers}
 use Rattle.arrival.specs.Visits.{Spoken, exit, Visits}
 use Rattle.arrival.specs.Arrivals.{takes, Arrives, Reconciles}
 use Rattle.arrival.specs.declared.jump.Visit.{Visit}
@@ -47,7 +47,7 @@ module _ {Γ fn : List ℕ} {m : Memory} {kept visited waits forms whats out : L
     (R : Remembers Γ fn m (arrays kept visited waits forms whats)) (l : c < nblocks fn) (j : is-join-point fn c ≡ true) (few : nblocks fn ≤ 256) where
   -- in the first pass
   first-visits₀ : {fs ws kept′ waits′ : List ℕ} {r : ℕ} {v : Visit} (i : ℕ) (entry : Bool) (E : Forest) → Spoken fn false (m .lines) out o → Fits Γ (local-types fn) E
-      → Arrives Γ (local-types fn) c kept waits (takes Γ (m .kept c) E) fs ws kept′ waits′ r
+      → Arrives Γ (local-types fn) c kept (waits-in fn waits) (takes Γ (m .kept c) E) fs ws kept′ (waits-in fn waits′) r
       → length kept′ ≡ length kept → length waits′ ≡ length waits
       → length fs ≡ length (lent-of forms (share-number fn c)) → length ws ≡ length (lent-of whats (share-number fn c))
       → (r ≡ 0 → v ≡ Over o) → (r ≢ 0 → v ≡ Refused r)
@@ -70,16 +70,16 @@ module _ {Γ fn : List ℕ} {m : Memory} {kept visited waits forms whats out : L
             let z = A .denied n d in
             stop (λ y. omega (arith, takes-nine Γ (m .kept c) E d)) ∙ ap Refused z;
         over = λ m′ e.
-            let (w, d, z) = then-done (takes Γ (m .kept c) E) e in
-            let y : taken c w m ≡ m′ = cc in
-            let (g, T) = A .took w d in
-            let M = taken-remembers R l j few (takes-same (m .kept c) (saved-typed Γ (local-types fn) _ _ _ (m .kept c) (R .saved c l j)) f d) p q T in
+            let (t, d, z) = then-done (takes Γ (m .kept c) E) e in
+            let y : taken c t m ≡ m′ = cc in
+            let (g, T) = A .took t d in
+            let M = taken-remembers R l j few (takes-same (m .kept c) (saved-typed Γ (local-types fn) _ _ _ (m .kept c) (R .saved c l j)) f d) w p q T in
             rw (← y) (o, over g, M, S);
       })
 
   -- and in the second
   second-visits₀ : {waits′ out′ : List ℕ} {v : Visit} (i : ℕ) (entry : Bool) (E S : Forest) → m .kept c ≡ some S → Spoken fn true (m .lines) out o
-      → Reconciles fn (point fn entry i) c visited waits out o (collects Γ E S) waits′ out′ v
+      → Reconciles fn (point fn entry i) c visited (waits-in fn waits) out o (collects Γ E S) (waits-in fn waits′) out′ v
       → length waits′ ≡ length waits
       → Visits Γ fn true (arrays kept visited waits forms whats) out (arrives Γ fn true (exit fn entry i c E) m) (arrays kept visited waits′ forms whats) out′ v
   second-visits₀ {waits′} {out′} {v} i entry E T k S A w =
@@ -93,13 +93,13 @@ module _ {Γ fn : List ℕ} {m : Memory} {kept visited waits forms whats out : L
             let y : marked x ts m ≡ m′ = cc in
             let (q, g, P) = A .told ts d in
             let L : Tells fn out o out′ q (mark (point fn entry i) ts) = record { told = λ u. rw (length-mark (point fn entry i) ts) P; silent = λ u. clash (cc (S .pen)) } in
-            rw (← y) (q, g, marked-remembers R l j few x ts refl (A .waiting ts d), spoken-told S L);
+            rw (← y) (q, g, marked-remembers R l j few x ts refl w (A .waiting ts d), spoken-told S L);
       })
 
   -- so where the pass does not record
   pub first-visits : {recording : Bool} {fs ws kept′ waits′ : List ℕ} {r : ℕ} {v : Visit} (i : ℕ) (entry : Bool) (E : Forest) → recording ≡ false
       → Spoken fn recording (m .lines) out o → Fits Γ (local-types fn) E
-      → Arrives Γ (local-types fn) c kept waits (takes Γ (m .kept c) E) fs ws kept′ waits′ r
+      → Arrives Γ (local-types fn) c kept (waits-in fn waits) (takes Γ (m .kept c) E) fs ws kept′ (waits-in fn waits′) r
       → length kept′ ≡ length kept → length waits′ ≡ length waits
       → length fs ≡ length (lent-of forms (share-number fn c)) → length ws ≡ length (lent-of whats (share-number fn c))
       → (r ≡ 0 → v ≡ Over o) → (r ≢ 0 → v ≡ Refused r)
@@ -111,7 +111,7 @@ module _ {Γ fn : List ℕ} {m : Memory} {kept visited waits forms whats out : L
   -- and where it does
   pub second-visits : {recording : Bool} {waits′ out′ : List ℕ} {v : Visit} (i : ℕ) (entry : Bool) (E S : Forest) → m .kept c ≡ some S → recording ≡ true
       → Spoken fn recording (m .lines) out o
-      → Reconciles fn (point fn entry i) c visited waits out o (collects Γ E S) waits′ out′ v
+      → Reconciles fn (point fn entry i) c visited (waits-in fn waits) out o (collects Γ E S) (waits-in fn waits′) out′ v
       → length waits′ ≡ length waits
       → Visits Γ fn recording (arrays kept visited waits forms whats) out (arrives Γ fn recording (exit fn entry i c E) m) (arrays kept visited waits′ forms whats) out′ v
   second-visits {recording = true} i entry E S k e = second-visits₀ i entry E S k

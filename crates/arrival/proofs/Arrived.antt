@@ -13,6 +13,7 @@ use borrow.Author.Tests.{leb-true, le-leb}
 use Rattle.model.specs.Words.{word}
 use Rattle.model.specs.Answer.{Answer, refused, done}
 use Rattle.model.specs.Tree.{Forest, sizes, joins, flagss}
+use Rattle.model.specs.Rounds.{put}
 use Rattle.base.specs.Tests.{split, clash}
 use Rattle.records.specs.Here.{Holds}
 use Rattle.laws.specs.Valid.{Valid, joins-valid}
@@ -28,7 +29,7 @@ use Rattle.arrival.specs.Shares.{Full}
 use Rattle.arrival.specs.Arrivals.{takes, Took, Arrives}
 use Rattle.arrival.proofs.Stored.{held-full}
 
-module _ {Γ locals : List ℕ} {c : ℕ} {kept waits fs ws kept′ waits′ : List ℕ} where
+module _ {Γ locals : List ℕ} {c : ℕ} {kept fs ws kept′ : List ℕ} {waits waits′ : ℕ → Bool} where
   -- a refusal
   arrives-refused : {a : Answer (Forest × Bool)} {n : ℕ} → a ≡ refused n → Arrives Γ locals c kept waits a fs ws kept′ waits′ n
   arrives-refused e = record { denied = λ m d. cc; took = λ w d. clash (cc) }
@@ -43,7 +44,7 @@ module _ {Γ locals : List ℕ} {c : ℕ} {kept waits fs ws kept′ waits′ : L
 
   -- one that is new there: the block waits
   arrives-new : {a : Answer (Forest × Bool)} {D : Forest} {n : ℕ} → a ≡ done (D, true) → Full Γ locals fs ws (suc (sizes D)) D → c < length kept
-      → n ≡ suc (sizes D) → kept′ ≡ set kept c n → waits′ ≡ set waits c 1 → Arrives Γ locals c kept waits a fs ws kept′ waits′ 0
+      → n ≡ suc (sizes D) → kept′ ≡ set kept c n → waits′ ≡ put waits c true → Arrives Γ locals c kept waits a fs ws kept′ waits′ 0
   arrives-new {D} {n} e f l k p q =
       let it : word kept′ c ≡ suc (sizes D) = ap (λ (x : List ℕ). word x c) p ∙ getD-set-same kept c n 0 l ∙ k in
       arrives-taken e (record {
@@ -54,7 +55,7 @@ module _ {Γ locals : List ℕ} {c : ℕ} {kept waits fs ws kept′ waits′ : L
 
   -- where nothing is stored
   pub arrives-first : {s : State} {E : Forest} {n : ℕ} → Holds Γ locals (value s) E → c < length kept → n ≡ s .nodes + 1
-      → fs ≡ s .forms → ws ≡ s .whats → kept′ ≡ set kept c n → waits′ ≡ set waits c 1 → Arrives Γ locals c kept waits (takes Γ none E) fs ws kept′ waits′ 0
+      → fs ≡ s .forms → ws ≡ s .whats → kept′ ≡ set kept c n → waits′ ≡ put waits c true → Arrives Γ locals c kept waits (takes Γ none E) fs ws kept′ waits′ 0
   unfolding takes
   arrives-first h l k p q u v = arrives-new refl (rw (p, q) (held-full h)) l (k ∙ ap (λ (m : ℕ). m + 1) (h .count) ∙ add-one _) u v
 
@@ -80,7 +81,7 @@ module _ {Γ locals fs ws : List ℕ} {S E : Forest} {r : Joined} (j : JoinedIn 
   pub joined-few : {n : ℕ} {b : Bool} → r ≡ To n b → n ≤ 512
   joined-few e = let t = joined-room e in omega arith
 
-  module _ {c : ℕ} {kept waits : List ℕ} where
+  module _ {c : ℕ} {kept : List ℕ} {waits : ℕ → Bool} where
     -- no room
     pub arrives-over : r ≡ joined-variants.Full → Arrives Γ locals c kept waits (takes Γ (some S) E) fs ws kept waits 9
     unfolding takes joined
@@ -89,7 +90,7 @@ module _ {Γ locals fs ws : List ℕ} {S E : Forest} {r : Joined} (j : JoinedIn 
         arrives-refused (split (leb (sizes (joins Γ false S E)) 512) (λ l. clash (cc)) (λ l. rw l))
 
     -- a change
-    pub arrives-changed : {kept′ waits′ : List ℕ} {n m : ℕ} {b : Bool} → r ≡ To n b → b ≡ true → c < length kept → m ≡ n + 1 → kept′ ≡ set kept c m → waits′ ≡ set waits c 1
+    pub arrives-changed : {kept′ : List ℕ} {waits′ : ℕ → Bool} {n m : ℕ} {b : Bool} → r ≡ To n b → b ≡ true → c < length kept → m ≡ n + 1 → kept′ ≡ set kept c m → waits′ ≡ put waits c true
         → Arrives Γ locals c kept waits (takes Γ (some S) E) fs ws kept′ waits′ 0
     arrives-changed e d l k p q =
         let t = joined-room e in
@@ -103,7 +104,7 @@ module _ {Γ locals fs ws : List ℕ} {S E : Forest} {r : Joined} (j : JoinedIn 
         arrives-taken (t .0 ∙ ap (λ (x : Bool). done (joins Γ false S E, x)) d) (record { full = joined-stored (t .1) (k ∙ ap (λ (D : Forest). suc (sizes D)) (sym same)); count = refl; waiting = refl })
 
 -- where S is stored and the same arrives
-pub arrives-same : {Γ locals fs ws kept waits : List ℕ} {c : ℕ} {S : Forest} → Full Γ locals fs ws (word kept c) S
+pub arrives-same : {Γ locals fs ws kept : List ℕ} {waits : ℕ → Bool} {c : ℕ} {S : Forest} → Full Γ locals fs ws (word kept c) S
     → Arrives Γ locals c kept waits (takes Γ (some S) S) fs ws kept waits 0
 unfolding takes
 arrives-same {Γ} {S = S} f =

@@ -1,6 +1,6 @@
 -- What an arrival leaves of the arrays is what model's arrival leaves of its memory: in the first pass `first-takes` and
 -- `taken-remembers`, in the second `second-owes`, `second-none` and `marked-remembers`.
-use mathlib.Core.Path.{_≡_, refl, sym, _∙_}
+use mathlib.Core.Path.{_≡_, refl, sym, ap, _∙_}
 use mathlib.Core.Bool.{Bool, true, false, not, cond}
 use mathlib.Core.List.{List, _++_}
 use mathlib.Core.Option.{Option, none, some}
@@ -9,7 +9,7 @@ use Prim.Native.Nat.{ℕ, suc, _+_, _≤_, _<_}
 use native.Mathlib.Omega.{arith}
 use native.Mathlib.Decide.{ℕ-discrete}
 use lib.ListN.{length, set, length-set}
-use lib.Seq.{getD-set-same, getD-set-other}
+use lib.Seq.{getD-set-other}
 use lib.Dec.{eqb, leb}
 use borrow.Author.Tests.{ne-eqb}
 use Rattle.model.specs.Words.{word}
@@ -31,7 +31,7 @@ use Rattle.solver.specs.Lists.{put-same, put-other}
 use Rattle.blocks.specs.Points.{share-number}
 use Rattle.laws.specs.Flags.{flags1-joins}
 use Rattle.arrival.specs.Memory.{Memory, arrives}
-use Rattle.arrival.specs.Shares.{Saved, arrays, Remembers}
+use Rattle.arrival.specs.Shares.{Saved, waits-in, arrays, Remembers}
 use Rattle.arrival.specs.Arrivals.{takes, Took}
 use Rattle.arrival.proofs.Shelves.{share-most, share-apart, base, lent-of, lent-share, shelved, shelved-length, shelved-same, shelved-other, shelved-rest}
 
@@ -47,14 +47,11 @@ word-written : (b : Bool) (l : List ℕ) (i v j : ℕ) → j ≢ i → word (con
 word-written true l i v j d = getD-set-other l i j v 0 d
 word-written false l i v j d = refl
 
--- a mark that may be put, as model puts it
-marks-written : (b : Bool) (l : List ℕ) (f : ℕ → Bool) (c n : ℕ) → c < length l → ((x : ℕ) → x < n → f x ≡ not (eqb (word l x) 0))
-    → (x : ℕ) → x < n → cond b (put f c true) f x ≡ not (eqb (word (cond b (set l c 1) l) x) 0)
-marks-written true l f c n i h x k = elim (ℕ-discrete x c) [
-  | yes e ↦ rw (e, put-same f c true, getD-set-same l c 1 0 i) refl
-  | no e ↦ rw (put-other f c true x (ne-eqb c x (λ d. e (sym d))), getD-set-other l c x 1 0 e) (h x k)
-]
-marks-written false l f c n i h x k = h x k
+-- a block that may be put in a set, and in another, looked at where they are the same
+put-alike : (b : Bool) (f g : ℕ → Bool) (c x : ℕ) → f x ≡ g x → cond b (put f c true) f x ≡ cond b (put g c true) g x
+unfolding put
+put-alike true f g c x h = ap (cond (eqb c x) true) h
+put-alike false f g c x h = h
 
 -- a choice the other way round
 pub unless : {A : Type 0} (b : Bool) (x y : A) → cond (not b) x y ≡ cond b y x
@@ -141,11 +138,11 @@ module _ {Γ fn : List ℕ} {m : Memory} {kept visited waits forms whats : List 
   lent-saved {p} e = rw (lent-share forms p, lent-share whats p, e) (R .saved c l j)
 
   -- after an arrival in the first pass
-  pub taken-remembers : {w : Forest × Bool} {fs ws kept′ waits′ : List ℕ} → (w .1 ≡ false → m .kept c ≡ some (w .0))
+  pub taken-remembers : {w : Forest × Bool} {fs ws kept′ waits′ : List ℕ} → (w .1 ≡ false → m .kept c ≡ some (w .0)) → length waits′ ≡ length waits
       → length fs ≡ length (lent-of forms (share-number fn c)) → length ws ≡ length (lent-of whats (share-number fn c))
-      → Took Γ (local-types fn) c kept waits w fs ws kept′ waits′
+      → Took Γ (local-types fn) c kept (waits-in fn waits) w fs ws kept′ (waits-in fn waits′)
       → Remembers Γ fn (taken c w m) (arrays kept′ visited waits′ (shelved forms (share-number fn c) fs) (shelved whats (share-number fn c) ws))
-  taken-remembers {w} {fs} {ws} {kept′} {waits′} same p q T =
+  taken-remembers {w} {fs} {ws} {kept′} {waits′} same four p q T =
       let L = R .long in
       let S = share-inside in
       let N = share-most fn c l j in
@@ -153,7 +150,7 @@ module _ {Γ fn : List ℕ} {m : Memory} {kept visited waits forms whats : List 
         long = record {
           kept = rw (T .count) (length-written (w .1) kept c _ ∙ L .kept);
           visited = L .visited;
-          waits = rw (T .waiting) (length-written (w .1) waits c 1 ∙ L .waits);
+          waits = four ∙ L .waits;
           forms = rw (shelved-length forms fs (share-number fn c) (S .0) p) (L .forms);
           whats = rw (shelved-length whats ws (share-number fn c) (S .1) q) (L .whats);
         };
@@ -166,28 +163,29 @@ module _ {Γ fn : List ℕ} {m : Memory} {kept visited waits forms whats : List 
               (R .saved b k e)
         ];
         unsaved = λ b e. kept-other (w .1) (m .kept) c (some (w .0)) b (λ d. clash (cc)) ∙ R .unsaved b e;
-        waits = λ b k. rw (T .waiting) (marks-written (w .1) waits (m .waits) c (nblocks fn) (omega (arith, L .waits)) (R .waits) b k);
+        waits = λ b k. put-alike (w .1) (m .waits) (waits-in fn waits) c b (R .waits b k) ∙ sym (ap (λ (f : ℕ → Bool). f b) (T .waiting));
         visited = R .visited;
         forms-rest = rw (shelved-length forms fs (share-number fn c) (S .0) p, shelved-rest forms fs (share-number fn c) (S .0) p (join-points fn) (N .0) (N .1)) (R .forms-rest);
         whats-rest = rw (shelved-length whats ws (share-number fn c) (S .1) q, shelved-rest whats ws (share-number fn c) (S .1) q (join-points fn) (N .0) (N .1)) (R .whats-rest);
       }
 
   -- and in the second
-  pub marked-remembers : (x : Exit Forest) (ts : List At) {waits′ : List ℕ} → x .block ≡ c → waits′ ≡ cond (eqb (word visited c) 0) (set waits c 1) waits
+  pub marked-remembers : (x : Exit Forest) (ts : List At) {waits′ : List ℕ} → x .block ≡ c → length waits′ ≡ length waits
+      → waits-in fn waits′ ≡ cond (eqb (word visited c) 0) (put (waits-in fn waits) c true) (waits-in fn waits)
       → Remembers Γ fn (marked x ts m) (arrays kept visited waits′ forms whats)
-  marked-remembers x ts {waits′} d e =
+  marked-remembers x ts {waits′} d four e =
       let L = R .long in
       record {
         long = record {
           kept = L .kept;
           visited = L .visited;
-          waits = rw e (length-written (eqb (word visited c) 0) waits c 1 ∙ L .waits);
+          waits = four ∙ L .waits;
           forms = L .forms;
           whats = L .whats;
         };
         saved = R .saved;
         unsaved = R .unsaved;
-        waits = λ b k. rw (e, d, R .visited c l, unless (eqb (word visited c) 0)) (marks-written (eqb (word visited c) 0) waits (m .waits) c (nblocks fn) (omega (arith, L .waits)) (R .waits) b k);
+        waits = λ b k. rw (d, R .visited c l, unless (eqb (word visited c) 0)) (put-alike (eqb (word visited c) 0) (m .waits) (waits-in fn waits) c b (R .waits b k) ∙ sym (ap (λ (f : ℕ → Bool). f b) e));
         visited = R .visited;
         forms-rest = R .forms-rest;
         whats-rest = R .whats-rest;

@@ -1,15 +1,16 @@
 -- An arrival in the second pass: what `reconcile` leaves, by what is collected. Assumes nothing.
 use mathlib.Core.Path.{_≡_, refl, ap, _∙_}
-use mathlib.Core.Bool.{Bool, not, cond}
+use mathlib.Core.Bool.{Bool, true, not, cond}
 use mathlib.Core.List.{List}
 use Prim.Native.Nat.{ℕ}
 use lib.Dec.{eqb}
-use lib.ListN.{length, set}
+use lib.ListN.{length}
 use Rattle.model.specs.Words.{word}
 use Rattle.model.specs.Answer.{Answer, done}
 use Rattle.model.specs.Place.{At}
 use Rattle.model.specs.Block.{entry-point}
 use Rattle.model.specs.Record.{point-entry}
+use Rattle.model.specs.Rounds.{put}
 use Rattle.base.specs.Tests.{clash}
 use Rattle.base.specs.Each.{Each}
 use Rattle.laws.specs.Lifted.{Dashed}
@@ -27,7 +28,7 @@ use Rattle.arrival.proofs.Stores.{unless}
 
 -- by what is collected at the point p, which is x
 module _ {fn : List ℕ} {p : ℕ} {out out′ : List ℕ} {o : Out} {x : Point} (here : (x .op, x .arg) ≡ point-entry (entry-point fn) p) {a : Answer (List At)} {r : Collected}
-    (dashed : (ts : List At) → a ≡ done ts → Each Dashed ts) (long : length out′ ≡ length out) (k : Collects out (at-point o x) out′ a r) {c : ℕ} {visited waits waits′ : List ℕ} where
+    (dashed : (ts : List At) → a ≡ done ts → Each Dashed ts) (long : length out′ ≡ length out) (k : Collects out (at-point o x) out′ a r) {c : ℕ} {visited : List ℕ} {waits waits′ : ℕ → Bool} where
   -- a refusal
   pub reconciles-refused : {n : ℕ} → r ≡ collected.Refused n → Reconciles fn p c visited waits out o a waits′ out′ (Refused n)
   reconciles-refused {n} e =
@@ -35,13 +36,13 @@ module _ {fn : List ℕ} {p : ℕ} {out out′ : List ℕ} {o : Out} {x : Point}
       record { same = long; denied = λ m d. cc; told = λ ts d. clash (cc); waiting = λ ts d. clash (cc) }
 
   -- lines recorded
-  pub reconciles-over : {q : Out} {v : Bool} → r ≡ collected.Done q → v ≡ not (eqb (word visited c) 0) → waits′ ≡ cond v waits (set waits c 1)
+  pub reconciles-over : {q : Out} {v : Bool} → r ≡ collected.Done q → v ≡ not (eqb (word visited c) 0) → waits′ ≡ cond v waits (put waits c true)
       → Reconciles fn p c visited waits out o a waits′ out′ (Over q)
   reconciles-over {q} {v} e d w =
-      let (b, y, put) = k .recorded q e in
+      let (b, y, puts) = k .recorded q e in
       record {
         same = long;
         denied = λ m d. clash (cc);
-        told = λ ts d. let same : b ≡ ts = cc in (q, refl, puts-alike (alike-at o x) (rw (same, lines-at (entry-point fn) p here (dashed ts d)) at put));
-        waiting = λ ts z. w ∙ ap (λ (b : Bool). cond b waits (set waits c 1)) d ∙ unless (eqb (word visited c) 0) waits (set waits c 1);
+        told = λ ts d. let same : b ≡ ts = cc in (q, refl, puts-alike (alike-at o x) (rw (same, lines-at (entry-point fn) p here (dashed ts d)) at puts));
+        waiting = λ ts z. w ∙ ap (λ (b : Bool). cond b waits (put waits c true)) d ∙ unless (eqb (word visited c) 0) waits (put waits c true);
       }

@@ -1,12 +1,16 @@
 // Arrivals at a join point, whose share of the store is lent: `goto_join_point` of both passes.
 ghost use mathlib.Core.Path.{_≡_};
+ghost use mathlib.Core.Bool.{true};
 ghost use Prim.Native.Nat.{_<_};
 ghost use lib.ListN.{length};
 ghost use Rattle.moments.specs.Lent.{was, after};
 ghost use Rattle.model.specs.Function.{nitems, local-types};
+ghost use Rattle.model.specs.Rounds.{put};
+ghost use Rattle.mir.specs.Sizes.{Formed};
 ghost use Rattle.state.specs.Share.{Share};
 ghost use Rattle.statements.specs.Kept.{Counted};
 ghost use Rattle.state.specs.Given.{Accepted, Stated};
+ghost use Rattle.arrival.specs.Shares.{waits-in, Waits-for};
 ghost use Rattle.arrival.specs.Arrivals.{Tests, Shelved, Filled, Arriving, Steady, Reconciling, Stands};
 use crate::jump::Jump;
 use crate::jump::Visit;
@@ -18,6 +22,7 @@ use collect::states::collect_fold_unfolds;
 use join::trees::Joined;
 use join::trees::join_into;
 use mir::function::local_types;
+use mir::function::rank_of;
 use queue::insert;
 use state::nodes::State;
 use state::share::load_state;
@@ -27,6 +32,15 @@ use statements::at_point;
 use statements::point_of;
 use statements::small;
 use type_record::record::wide;
+
+// The block c waits.
+fn wait(waits: &mut [u64], fun: &[u32], c: usize)
+    requires { ⌜ Formed (now fun) ⌝ }
+    requires { ⌜ Waits-for (now fun) c (now waits) ⌝ }
+    ensures { λ r. ⌜ waits-in (was fun) (after waits) ≡ put (waits-in (was fun) (was waits)) c true ⌝ }
+{
+    insert(waits, rank_of(fun, c));
+}
 
 // Are these words the same?
 fn same_words(a: &[u16], b: &[u16]) -> bool
@@ -67,7 +81,7 @@ fn merge(
     offs: &[u32],
     fun: &[u32],
     memo: &mut [u32],
-    waits: &mut [u32],
+    waits: &mut [u64],
     c: usize,
     s: State,
     forms: &mut [u16],
@@ -76,7 +90,7 @@ fn merge(
     requires { ⌜ Accepted (now types) (now offs) (now fun) ⌝ }
     requires { ⌜ Stated (now types) (local-types (now fun)) s ⌝ }
     requires { ⌜ Shelved (now types) (now fun) (now memo) (now forms) (now whats) c ⌝ }
-    requires { ⌜ c < length (now waits) ⌝ }
+    requires { ⌜ Waits-for (now fun) c (now waits) ⌝ }
     ensures { λ r. ⌜ Arriving (was types) (was fun) c s memo waits forms whats r ⌝ }
     ensures lengths { λ r. ⌜ Steady memo waits forms whats ⌝ }
 {
@@ -84,7 +98,7 @@ fn merge(
     if k == 0 {
         save_state(s, forms, whats);
         set_stored(memo, c, small(s.nodes + 1));
-        insert(waits, c);
+        wait(waits, fun, c);
         return 0;
     }
     let old = load_state(forms, whats, wide(k) - 1);
@@ -94,7 +108,7 @@ fn merge(
     };
     if changed {
         set_stored(memo, c, small(nodes + 1));
-        insert(waits, c);
+        wait(waits, fun, c);
     }
     0
 }
@@ -105,7 +119,7 @@ pub fn arrive(
     offs: &[u32],
     fun: &[u32],
     memo: &mut [u32],
-    waits: &mut [u32],
+    waits: &mut [u64],
     c: usize,
     s: State,
     forms: &mut [u16],
@@ -114,7 +128,7 @@ pub fn arrive(
     requires { ⌜ Accepted (now types) (now offs) (now fun) ⌝ }
     requires { ⌜ Stated (now types) (local-types (now fun)) s ⌝ }
     requires { ⌜ Shelved (now types) (now fun) (now memo) (now forms) (now whats) c ⌝ }
-    requires { ⌜ c < length (now waits) ⌝ }
+    requires { ⌜ Waits-for (now fun) c (now waits) ⌝ }
     ensures { λ r. ⌜ Arriving (was types) (was fun) c s memo waits forms whats r ⌝ }
     ensures lengths { λ r. ⌜ Steady memo waits forms whats ⌝ }
 {
@@ -131,7 +145,7 @@ pub fn reconcile<'a>(
     offs: &[u32],
     fun: &[u32],
     memo: &[u32],
-    waits: &mut [u32],
+    waits: &mut [u64],
     j: Jump,
     s: State,
     forms: &'a [u16],
@@ -142,7 +156,7 @@ pub fn reconcile<'a>(
     requires { ⌜ Accepted (now types) (now offs) (now fun) ⌝ }
     requires { ⌜ Stated (now types) (local-types (now fun)) s ⌝ }
     requires { ⌜ Filled (now types) (now fun) (now memo) (now forms) (now whats) (j .block) ⌝ }
-    requires { ⌜ j .block < length (now waits) ⌝ }
+    requires { ⌜ Waits-for (now fun) (j .block) (now waits) ⌝ }
     requires { ⌜ j .item < nitems (now fun) ⌝ }
     requires { ⌜ Counted (now out) o ⌝ }
     ensures { λ r. ⌜ Reconciling (was types) (was fun) j s (was memo) (was forms) (was whats) waits out o r ⌝ }
@@ -166,7 +180,7 @@ pub fn reconcile<'a>(
             if visited(memo, c) {
                 return Visit::Over(q);
             }
-            insert(waits, c);
+            wait(waits, fun, c);
             Visit::Over(q)
         }
     }

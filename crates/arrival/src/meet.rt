@@ -21,7 +21,7 @@ pub fn meet(
     fun: &[u32],
     points: &[u32],
     memo: &mut [u32],
-    waits: &mut [u32],
+    waits: &mut [u64],
     forms: &mut [u16],
     whats: &mut [u16],
     out: &mut [u32],

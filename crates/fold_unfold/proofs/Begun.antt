@@ -1,33 +1,26 @@
--- The memory with which each pass begins is in the arrays: zeros before the first, what the first has stored before the second. And the
--- ranks of the blocks, as a part of the function record.
+-- The memory with which each pass begins is in the arrays: zeros before the first, what the first has stored before the second.
 use mathlib.Core.Path.{_≡_, refl, sym, ap, _∙_, subst₂}
 use mathlib.Core.Bool.{true, false, not}
 use mathlib.Core.List.{List}
-use Prim.Native.Nat.{ℕ, zero, suc, _+_, _*_, _-_, _≤_, _<_}
+use Prim.Native.Nat.{ℕ, _+_, _*_, _-_, _≤_, _<_}
 use native.Mathlib.Omega.{arith}
-use lib.ListN.{length, take, drop, replicate, length-replicate, length-drop}
-use lib.Seq.{length-take-le, getD-take, getD-drop}
+use lib.ListN.{length, take, drop, replicate, length-replicate}
 use lib.Dec.{eqb}
 use Rattle.model.specs.Words.{word}
 use Rattle.model.specs.State.{most}
-use Rattle.model.specs.Function.{nlocals, nblocks, rank}
+use Rattle.model.specs.Function.{nblocks, rank}
 use Rattle.model.specs.Block.{is-join-point, join-points}
 use Rattle.model.specs.Rounds.{elem}
 use Rattle.base.specs.Below.{count-room}
-use Rattle.base.specs.Equal.{drop-replicate, take-replicate}
-use Rattle.mir.specs.Sizes.{Laid}
+use Rattle.base.specs.Equal.{drop-replicate, take-replicate, zero-word}
 use Rattle.blocks.specs.Points.{share-number}
+use Rattle.queue.specs.Bits.{no-bits}
+use Rattle.queue.proofs.Waiting.{waiting-none}
 use Rattle.arrival.specs.Memory.{Memory}
 use Rattle.arrival.specs.Shares.{kept-in, arrays, Remembers, share-of}
-use Rattle.fold_unfold.specs.Runs.{blank, again, fresh, Ranked}
+use Rattle.fold_unfold.specs.Runs.{blank, again, fresh}
 
--- each word of zeros is 0, and past them too
-pub zero-word : (n i : ℕ) → word (replicate n 0) i ≡ 0
-zero-word zero i = refl
-zero-word (suc n) zero = refl
-zero-word (suc n) (suc i) = zero-word n i
-
--- so nothing waits, and nothing was visited
+-- where there are zeros nothing was visited
 zero-flag : (n i : ℕ) → false ≡ not (eqb (word (replicate n 0) i) 0)
 zero-flag n i = rw (zero-word n i)
 
@@ -47,13 +40,13 @@ zero-rest n k = drop-replicate k n 0 ∙ ap (λ (m : ℕ). replicate (m - k) 0) 
 
 -- before the first pass
 blank-remembered : (Γ fn : List ℕ) (m n : ℕ) → most * join-points fn ≤ m → most * join-points fn ≤ n
-    → Remembers Γ fn blank (arrays (replicate 256 0) (replicate 256 0) (replicate 256 0) (replicate m 0) (replicate n 0))
+    → Remembers Γ fn blank (arrays (replicate 256 0) (replicate 256 0) no-bits (replicate m 0) (replicate n 0))
 unfolding elem
 blank-remembered Γ fn m n h l = record {
   long = record {
     kept = length-replicate {A = ℕ} 256 0;
     visited = length-replicate {A = ℕ} 256 0;
-    waits = length-replicate {A = ℕ} 256 0;
+    waits = refl;
     forms = rw length-replicate h;
     whats = rw length-replicate l;
   };
@@ -63,7 +56,7 @@ blank-remembered Γ fn m n h l = record {
     whats = zero-share n (share-number fn b) (omega arith);
   };
   unsaved = λ b e. refl;
-  waits = λ b k. zero-flag 256 b;
+  waits = λ b k. sym (waiting-none (rank fn) (nblocks fn) b);
   visited = λ b k. zero-flag 256 b;
   forms-rest = zero-rest m (most * join-points fn);
   whats-rest = zero-rest n (most * join-points fn);
@@ -76,42 +69,25 @@ pub zeros-remembered : {Γ fn fs ws : List ℕ} → (fs ≡ replicate (length fs
 zeros-remembered {Γ} {fn} {fs} {ws} z h =
     let k : kept-in (replicate 512 0) ≡ replicate 256 0 = take-replicate 256 512 0 (omega arith) in
     rw k
-    (subst₂ (λ (f w : List ℕ). Remembers Γ fn blank (arrays (replicate 256 0) (replicate 256 0) (replicate 256 0) f w)) (sym (z .0)) (sym (z .1))
+    (subst₂ (λ (f w : List ℕ). Remembers Γ fn blank (arrays (replicate 256 0) (replicate 256 0) no-bits f w)) (sym (z .0)) (sym (z .1))
     (blank-remembered Γ fn (length fs) (length ws) (h .0) (h .1)))
 
 -- before the second
 pub again-remembered : {Γ fn : List ℕ} {m : Memory} {k v w fs ws : List ℕ} → Remembers Γ fn m (arrays k v w fs ws)
-    → Remembers Γ fn (again (m .kept)) (arrays k (replicate 256 0) (replicate 256 0) fs ws)
+    → Remembers Γ fn (again (m .kept)) (arrays k (replicate 256 0) no-bits fs ws)
 unfolding elem
-again-remembered R = record {
+again-remembered {fn = fn} R = record {
   long = record {
     kept = R .long .kept;
     visited = length-replicate {A = ℕ} 256 0;
-    waits = length-replicate {A = ℕ} 256 0;
+    waits = refl;
     forms = R .long .forms;
     whats = R .long .whats;
   };
   saved = R .saved;
   unsaved = R .unsaved;
-  waits = λ b k. zero-flag 256 b;
+  waits = λ b k. sym (waiting-none (rank fn) (nblocks fn) b);
   visited = λ b k. zero-flag 256 b;
   forms-rest = R .forms-rest;
   whats-rest = R .whats-rest;
 }
-
--- THE RANKS
-
--- as a part of the record
-ranks-part : (fn : List ℕ) → Laid fn → Ranked fn (take (nblocks fn) (drop (4 + nlocals fn + nblocks fn) fn))
-unfolding rank
-ranks-part fn L = record {
-  long = length-take-le (nblocks fn) (drop (4 + nlocals fn + nblocks fn) fn) (rw length-drop (omega (arith, L .whole)));
-  ranks-are = λ b l. getD-take (nblocks fn) (drop (4 + nlocals fn + nblocks fn) fn) b 0 l ∙ getD-drop (4 + nlocals fn + nblocks fn) fn b 0;
-}
-
--- as the code has it, behind l local types and n starts
-pub ranks-there : (fn : List ℕ) (l n : ℕ) → Laid fn → l ≡ nlocals fn → n ≡ nblocks fn → Ranked fn (take (4 + l + n + n - (4 + l + n)) (drop (4 + l + n) fn))
-ranks-there fn l n L p q =
-    let d : 4 + l + n + n - (4 + l + n) ≡ nblocks fn = omega arith in
-    let k : 4 + l + n ≡ 4 + nlocals fn + nblocks fn = omega arith in
-    rw (d, k) (ranks-part fn L)

@@ -18,6 +18,7 @@ use Rattle.base.specs.Answer.{split-answer, then-done}
 use Rattle.demand.specs.Whole.{Passed}
 use Rattle.demand.specs.Refused.{passes-refuse}
 use Rattle.statements.specs.declared.Out.{Out}
+use Rattle.queue.specs.Bits.{no-bits}
 use Rattle.arrival.specs.declared.jump.Visit.{Visit}
 use Rattle.arrival.specs.declared.jump.Visit.the-variants.{Over, Refused as Stopped}
 use Rattle.arrival.specs.Memory.{Memory, with-store, with-log}
@@ -82,7 +83,7 @@ module _ {Γ fn : List ℕ} (H : Passed Γ fn) where
 pub record Half (Γ fn kept fs ws : List ℕ) : Type 0 where
   pub memory : Memory
   pub inferred : Inferred Γ fn (memory .kept)
-  pub remembers : Remembers Γ fn (again (memory .kept)) (arrays kept (replicate 256 0) (replicate 256 0) fs ws)
+  pub remembers : Remembers Γ fn (again (memory .kept)) (arrays kept (replicate 256 0) no-bits fs ws)
 
 module _ {Γ fn kept fs ws out kept′ fs′ ws′ out′ : List ℕ} {v : Visit} (E : Ends Γ fn false kept fs ws out (pass Γ fn false blank) kept′ fs′ ws′ out′ v) where
   -- the first pass is refused
@@ -107,7 +108,7 @@ module _ {Γ fn kept fs ws out kept′ fs′ ws′ out′ : List ℕ} {v : Visit
 
 module _ {Γ fn kept fs ws : List ℕ} (H : Half Γ fn kept fs ws) where
   -- the second pass begins
-  pub second-begins : Passed Γ fn → Begins Γ fn true (arrays kept (replicate 256 0) (replicate 256 0) fs ws)
+  pub second-begins : Passed Γ fn → Begins Γ fn true (arrays kept (replicate 256 0) no-bits fs ws)
   second-begins P = record { memory = again (H .memory .kept); is = H .remembers; starts = (H .memory .kept, refl, H .inferred); goes = second-sound P (H .inferred) }
 
   -- and ends

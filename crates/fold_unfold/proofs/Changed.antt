@@ -1,33 +1,22 @@
 -- The arrays change as the memory does: a block waits no more, is visited; lines are recorded; none was visited. And what a pass
 -- leaves.
 use mathlib.Core.Path.{_≡_, refl, sym, ap, _∙_, subst₂}
-use mathlib.Core.Bool.{Bool, true, false, cond, not}
+use mathlib.Core.Bool.{Bool, true, false, cond}
 use mathlib.Core.List.{List, _++_}
 use Prim.Native.Nat.{ℕ, _<_}
 use lib.Dec.{eqb}
 use lib.ListN.{length, set, replicate, length-set, length-replicate}
-use lib.Seq.{getD-set-same, getD-set-other}
-use borrow.Author.Tests.{eqb-true, eqb-false}
-use Rattle.model.specs.Words.{word}
 use Rattle.model.specs.Place.{At}
 use Rattle.model.specs.Block.{entry-point}
 use Rattle.model.specs.Frame.{Line, mark}
 use Rattle.model.specs.Rounds.{put, elem}
-use Rattle.base.specs.Tests.{split, eqb-sym}
+use Rattle.base.specs.Tests.{eqb-sym, set-test}
+use Rattle.base.specs.Equal.{zero-word}
+use Rattle.queue.specs.Bits.{no-bits}
 use Rattle.arrival.specs.Memory.{Memory}
-use Rattle.arrival.specs.Shares.{visited-in, Visited, Unvisited, Arrays, arrays, arrays-in, Alike, Remembers}
+use Rattle.arrival.specs.Shares.{visited-in, waits-in, Visited, Unvisited, Arrays, arrays, arrays-in, Alike, Remembers}
 use Rattle.fold_unfold.specs.Runs.{visiting, entered, fresh}
-use Rattle.fold_unfold.proofs.Begun.{zero-word}
 use Rattle.fold_unfold.proofs.Rounds.{told}
-
--- a word that is set, as a test
-set-test : (l : List ℕ) (b v c : ℕ) → b < length l → not (eqb (word (set l b v) c) 0) ≡ cond (eqb b c) (not (eqb v 0)) (not (eqb (word l c) 0))
-set-test l b v c h = split (eqb b c)
-    (λ e.
-    let q = eqb-true b c e in
-    let k : word (set l b v) c ≡ v = ap (λ (i : ℕ). word (set l b v) i) (sym q) ∙ getD-set-same l b v 0 h in
-    cc)
-    (λ e. cc (getD-set-other l b c v 0 (λ q. eqb-false b c e (sym q))))
 
 -- the block b waits no more
 abbrev pub unwaiting : ℕ → Memory → Memory
@@ -35,20 +24,20 @@ unwaiting b m = record { kept = m .kept; waits = put (m .waits) b false; visited
 
 module _ {Γ fn : List ℕ} {m : Memory} {a : Arrays} (R : Remembers Γ fn m a) where
   -- a popped block
-  pub remembers-unwaiting : {w : List ℕ} (b : ℕ) → b < length (a .waits) → w ≡ set (a .waits) b 0
+  pub remembers-unwaiting : {w : List ℕ} (b : ℕ) → length w ≡ length (a .waits) → waits-in fn w ≡ put (waits-in fn (a .waits)) b false
       → Remembers Γ fn (unwaiting b m) (arrays (a .kept) (a .visited) w (a .forms) (a .whats))
   unfolding put
   remembers-unwaiting b h e = record {
     long = record {
       kept = R .long .kept;
       visited = R .long .visited;
-      waits = ap length e ∙ length-set (a .waits) b 0 ∙ R .long .waits;
+      waits = h ∙ R .long .waits;
       forms = R .long .forms;
       whats = R .long .whats;
     };
     saved = R .saved;
     unsaved = R .unsaved;
-    waits = λ c l. cc (e, set-test (a .waits) b 0 c h, R .waits c l);
+    waits = λ c l. ap (cond (eqb b c) false) (R .waits c l) ∙ sym (ap (λ (f : ℕ → Bool). f c) e);
     visited = R .visited;
     forms-rest = R .forms-rest;
     whats-rest = R .whats-rest;
@@ -118,11 +107,11 @@ module _ {Γ fn : List ℕ} {m : Memory} {a : Arrays} (R : Remembers Γ fn m a) 
 
 module _ {memo memo′ fs ws : List ℕ} where
   -- no block was visited: a pass begins
-  pub remembers-cleared : {Γ fn : List ℕ} {m : Memory} → Unvisited memo memo′ → Remembers Γ fn m (fresh memo fs ws) → Remembers Γ fn m (arrays-in memo′ (replicate 256 0) fs ws)
-  remembers-cleared {Γ} {fn} {m} U R = subst₂ (λ (k v : List ℕ). Remembers Γ fn m (arrays k v (replicate 256 0) fs ws)) (sym (U .kept)) (sym (U .visited)) R
+  pub remembers-cleared : {Γ fn : List ℕ} {m : Memory} → Unvisited memo memo′ → Remembers Γ fn m (fresh memo fs ws) → Remembers Γ fn m (arrays-in memo′ no-bits fs ws)
+  remembers-cleared {Γ} {fn} {m} U R = subst₂ (λ (k v : List ℕ). Remembers Γ fn m (arrays k v no-bits fs ws)) (sym (U .kept)) (sym (U .visited)) R
 
   -- all is as long as it was
-  pub alike-cleared : Unvisited memo memo′ → Alike (fresh memo fs ws) (arrays-in memo′ (replicate 256 0) fs ws)
+  pub alike-cleared : Unvisited memo memo′ → Alike (fresh memo fs ws) (arrays-in memo′ no-bits fs ws)
   alike-cleared U = record { kept = ap length (U .kept); visited = ap length (U .visited); waits = refl; forms = refl; whats = refl }
 
   -- a block is visited

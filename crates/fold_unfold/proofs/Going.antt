@@ -1,51 +1,38 @@
 -- A pass between two turns: what the last visit answered, and that the pass is what is left behind it.
-use mathlib.Core.Path.{_≡_, refl, sym, ap, _∙_}
-use mathlib.Core.Bool.{Bool, true, false, not}
+use mathlib.Core.Path.{_≡_, refl, sym, ap, _∙_, subst}
+use mathlib.Core.Bool.{Bool, true, false}
 use mathlib.Core.List.{List}
 use mathlib.Core.Option.{Option, none, some}
-use Prim.Native.Nat.{ℕ, zero, suc, _<_}
+use Prim.Native.Nat.{ℕ, _<_}
 use native.Mathlib.Omega.{arith}
-use lib.Dec.{eqb, ltb}
-use lib.ListN.{length, set, length-set}
-use Rattle.model.specs.Words.{word}
+use lib.ListN.{length}
 use Rattle.model.specs.Answer.{Answer, done, _>>=_}
-use Rattle.model.specs.Rounds.{better, lowest}
+use Rattle.model.specs.Rounds.{lowest, put}
 use Rattle.model.specs.Function.{nblocks, rank}
-use Rattle.base.specs.Tests.{split, split-option, clash}
+use Rattle.base.specs.Tests.{clash}
 use Rattle.base.specs.Answer.{split-answer}
 use Rattle.base.specs.Kinds.{Known}
-use Rattle.solver.specs.Lowest.{lowest-some}
 use Rattle.demand.specs.Whole.{Passed}
+use Rattle.mir.specs.Sizes.{Formed}
+use Rattle.blocks.proofs.Spots.{formed-accepted}
 use Rattle.statements.specs.declared.Out.{Out}
-use Rattle.queue.specs.Popped.{next, answered, without, Pops}
+use Rattle.queue.specs.Popped.{answered, without, Pops, Popping}
 use Rattle.queue.specs.declared.Popped.{Popped}
 use Rattle.queue.specs.declared.Popped.the-variants.{Block, Empty}
+use Rattle.queue.proofs.Lowest.{lowest-same}
+use Rattle.queue.proofs.Waiting.{facts-ranking}
 use Rattle.arrival.specs.Memory.{Memory, popped, enters}
-use Rattle.arrival.specs.Shares.{Arrays, arrays, Alike, Remembers}
+use Rattle.arrival.specs.Shares.{waits-in, Arrays, arrays, Alike, Remembers}
 use Rattle.arrival.specs.Visits.{Spoken, Visits}
 use Rattle.arrival.specs.declared.jump.Visit.{Visit}
 use Rattle.arrival.specs.declared.jump.Visit.the-variants.{Over, Refused}
-use Rattle.fold_unfold.specs.Runs.{rest, Ranked, Ends}
+use Rattle.fold_unfold.specs.Runs.{rest, Ordered, Ends}
 use Rattle.fold_unfold.proofs.Rounds.{Steady, told, Turned, rests}
 use Rattle.fold_unfold.proofs.Weight.{weight, weight-is, height}
 use Rattle.visit.proofs.Entering.{visits-later}
 use Rattle.fold_unfold.proofs.Changed.{remembers-told}
 
 -- THE NEXT BLOCK
-
--- ranks and waiting blocks that agree below n have one lowest
-lowest-same : (r q : ℕ → ℕ) (v w : ℕ → Bool) (n : ℕ) → ((b : ℕ) → b < n → r b ≡ q b) → ((b : ℕ) → b < n → v b ≡ w b) → lowest r v n ≡ lowest q w n
-unfolding lowest better
-lowest-same r q v w zero f g = refl
-lowest-same r q v w (suc n) f g =
-    let k = lowest-same r q v w n (λ b l. f b (omega arith)) (λ b l. g b (omega arith)) in
-    let a = f n (omega arith) in
-    let e = g n (omega arith) in
-    split (v n)
-    (λ d. split-option (lowest q w n)
-    (λ j. cc)
-    (λ b j. let i = f b (omega (arith, lowest-some q w n b j)) in split (ltb (q n) (q b)) (λ t. cc) (λ t. cc)))
-    (λ d. cc)
 
 -- none is popped: there is none
 answered-none : (o : Option ℕ) → answered o ≡ Empty → o ≡ none
@@ -57,22 +44,25 @@ answered-some : (o : Option ℕ) {b : ℕ} → answered o ≡ Block b → o ≡ 
 answered-some none e = clash (cc)
 answered-some (some c) e = cc
 
-module _ {Γ fn ranks : List ℕ} {m : Memory} {a : Arrays} {n : ℕ} {waits′ : List ℕ} {r : Popped}
-    (K : Ranked fn ranks) (R : Remembers Γ fn m a) (e : n ≡ nblocks fn) (P : Pops (a .waits) ranks n waits′ r) where
+module _ {Γ fn blocks : List ℕ} {m : Memory} {a : Arrays} {n : ℕ} (waits′ : List ℕ) {r : Popped}
+    (F : Formed fn) (I : Ordered fn blocks) (R : Remembers Γ fn m a) (e : n ≡ nblocks fn) (P : Popping blocks n (a .waits) waits′ r) where
+  -- by the function's ranks
+  pops-ranked : Pops (rank fn) (nblocks fn) (waits-in fn (a .waits)) (waits-in fn waits′) r
+  pops-ranked = subst (λ (k : ℕ). Popping blocks k (a .waits) waits′ r) e P (rank fn) (facts-ranking (formed-accepted F)) I
+
   -- what is next is model's
-  next-is : next (a .waits) ranks n ≡ lowest (rank fn) (m .waits) (nblocks fn)
-  next-is = ap (next (a .waits) ranks) e
-      ∙ lowest-same (word ranks) (rank fn) (λ b. not (eqb (word (a .waits) b) 0)) (m .waits) (nblocks fn) (K .ranks-are) (λ b l. sym (R .waits b l))
+  next-is : lowest (rank fn) (waits-in fn (a .waits)) (nblocks fn) ≡ lowest (rank fn) (m .waits) (nblocks fn)
+  next-is = lowest-same (rank fn) (rank fn) (waits-in fn (a .waits)) (m .waits) (nblocks fn) (λ b l. refl) (λ b l. sym (R .waits b l))
 
   -- nothing waits
   pub pops-none : r ≡ Empty → lowest (rank fn) (m .waits) (nblocks fn) ≡ none
-  pops-none d = sym next-is ∙ answered-none (next (a .waits) ranks n) (sym (P .answer) ∙ d)
+  pops-none d = sym next-is ∙ answered-none _ (sym (pops-ranked .answer) ∙ d)
 
   -- the block b is next, and waits no more
-  pub pops-block : {b : ℕ} → r ≡ Block b → (lowest (rank fn) (m .waits) (nblocks fn) ≡ some b) × (waits′ ≡ set (a .waits) b 0)
+  pub pops-block : {b : ℕ} → r ≡ Block b → (lowest (rank fn) (m .waits) (nblocks fn) ≡ some b) × (waits-in fn waits′ ≡ put (waits-in fn (a .waits)) b false)
   pops-block d =
-      let k = answered-some (next (a .waits) ranks n) (sym (P .answer) ∙ d) in
-      (sym next-is ∙ k, P .rest ∙ ap (without (a .waits)) k)
+      let k = answered-some _ (sym (pops-ranked .answer) ∙ d) in
+      (sym next-is ∙ k, pops-ranked .rest ∙ ap (without (waits-in fn (a .waits))) k)
 
 -- BETWEEN TWO TURNS
 
@@ -159,11 +149,11 @@ module _ {Γ fn : List ℕ} {recording : Bool} {x : Arrays} {out : List ℕ} {a 
       (X : Visits Γ fn recording (arrays (y .kept) (y .visited) w (y .forms) (y .whats)) out′
       (enters Γ fn recording (nblocks fn) b (T .state) (popped b (A .memory))) z out″ v) where
     -- a turn
-    pub stands-turns : w ≡ set (y .waits) b 0 → Going Γ fn recording x out a z out″ v
+    pub stands-turns : length w ≡ length (y .waits) → Going Γ fn recording x out a z out″ v
     stands-turns e = record {
       left = enters Γ fn recording (nblocks fn) b (T .state) (popped b (A .memory));
       goes = A .goes ∙ T .goes;
-      visits = visits-later (record { kept = A .alike .kept; visited = A .alike .visited; waits = ap length e ∙ length-set (y .waits) b 0 ∙ A .alike .waits; forms = A .alike .forms; whats = A .alike .whats }) (A .same) X;
+      visits = visits-later (record { kept = A .alike .kept; visited = A .alike .visited; waits = e ∙ A .alike .waits; forms = A .alike .forms; whats = A .alike .whats }) (A .same) X;
       steady = λ m e. (T .less m e) .0;
     }
 

@@ -11,7 +11,7 @@ pub mod Passed
 pub mod Rounds
 -- that number, read from the arrays
 pub mod Weight
--- the memory with which a pass begins, in the arrays; the ranks
+-- the memory with which a pass begins, in the arrays
 pub mod Begun
 -- the arrays change as the memory does
 pub mod Changed

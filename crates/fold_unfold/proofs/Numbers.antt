@@ -26,6 +26,7 @@ use Rattle.model.specs.Promised.{One-of, whole-numbers}
 use Rattle.base.specs.Tests.{clash}
 use Rattle.base.specs.Answer.{split-answer}
 use Rattle.base.specs.Equal.{drop-replicate}
+use Rattle.base.specs.Equal.{zero-word}
 use Rattle.records.specs.Entries.{entries-of}
 use Rattle.demand.specs.Demand.{demand-3}
 use Rattle.demand.specs.Refused.{whole-refuses}
@@ -36,7 +37,6 @@ use Rattle.statements.proofs.Marks.{lent-held, lent-told, lent-unmarked}
 use Rattle.fold_unfold.specs.declared.Ghosts.{Ghosts}
 use Rattle.fold_unfold.specs.declared.Ghosts.the-variants.{Done, Refused}
 use Rattle.fold_unfold.specs.Answers.{Whole, marks-left, Marked, Whole-told, over}
-use Rattle.fold_unfold.proofs.Begun.{zero-word}
 
 -- ZEROS are a record of no entries
 zeros-unmarked : (n : ℕ) → without-marks (replicate n 0) ≡ replicate n 0

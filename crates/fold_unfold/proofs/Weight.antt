@@ -20,7 +20,7 @@ use Rattle.base.specs.Kinds.{Known}
 use Rattle.records.specs.Decode.{decode-encode}
 use Rattle.blocks.specs.Points.{share-number}
 use Rattle.arrival.specs.Memory.{Memory}
-use Rattle.arrival.specs.Shares.{Saved, Arrays, share-of, Remembers}
+use Rattle.arrival.specs.Shares.{Saved, waits-in, Arrays, share-of, Remembers}
 use Rattle.arrival.specs.declared.jump.Visit.{Visit}
 use Rattle.arrival.specs.declared.jump.Visit.the-variants.{Over, Refused}
 use Rattle.fold_unfold.proofs.Rounds.{number}
@@ -45,7 +45,7 @@ module _ (Γ fn : List ℕ) (a : Arrays) where
 
   -- the number that falls
   pub weight : Bool → ℕ
-  weight false = sum (λ b. weigh (frame Γ fn) (stored b) (not (eqb (word (a .waits) b) 0))) (nblocks fn)
+  weight false = sum (λ b. weigh (frame Γ fn) (stored b) (waits-in fn (a .waits) b)) (nblocks fn)
   weight true = sum (λ b. cond (not (eqb (word (a .visited) b) 0)) 0 1) (nblocks fn)
 
 -- it is model's

@@ -2,10 +2,11 @@
 ghost use Prim.Native.Nat.{_*_, _≤_};
 ghost use lib.ListN.{length};
 ghost use Rattle.moments.specs.Lent.{was, after};
+ghost use Rattle.mir.specs.Sizes.{Formed};
 ghost use Rattle.state.specs.Given.{Accepted};
 ghost use Rattle.arrival.specs.Shares.{arrays-in, change, Shared};
 ghost use Rattle.fold_unfold.specs.Answers.{Analysed};
-ghost use Rattle.fold_unfold.specs.Runs.{fresh, Stored, Ranked, Begins, Opening, Opens, Turns, Runs, Wiped, Store-long};
+ghost use Rattle.fold_unfold.specs.Runs.{fresh, Stored, Ordered, Begins, Opening, Opens, Turns, Runs, Wiped, Store-long};
 use arrival::jump::Visit;
 use arrival::memory::clear_visited;
 use arrival::memory::set_visited;
@@ -14,6 +15,7 @@ use body::items::Items;
 use body::items::pass_items;
 use mir::function::nblocks;
 use mir::function::nlocals;
+use mir::function::rank_of;
 use mir::function::start_of;
 use queue::Popped;
 use queue::pop;
@@ -34,7 +36,7 @@ fn open_pass(
     fun: &[u32],
     points: &[u32],
     memo: &mut [u32],
-    waits: &mut [u32],
+    waits: &mut [u64],
     forms: &mut [u16],
     whats: &mut [u16],
     out: &mut [u32],
@@ -95,7 +97,7 @@ fn turn(
     fun: &[u32],
     points: &[u32],
     memo: &mut [u32],
-    waits: &mut [u32],
+    waits: &mut [u64],
     forms: &mut [u16],
     whats: &mut [u16],
     out: &mut [u32],
@@ -139,7 +141,7 @@ fn run(
     offs: &[u32],
     fun: &[u32],
     points: &[u32],
-    ranks: &[u32],
+    blocks: &[u32],
     memo: &mut [u32],
     forms: &mut [u16],
     whats: &mut [u16],
@@ -148,13 +150,13 @@ fn run(
 ) -> Visit
     requires { ⌜ Accepted (now types) (now offs) (now fun) ⌝ }
     requires { ⌜ Shared (now fun) (now points) ⌝ }
-    requires { ⌜ Ranked (now fun) (now ranks) ⌝ }
+    requires { ⌜ Ordered (now fun) (now blocks) ⌝ }
     requires { ⌜ 512 ≤ length (now memo) ⌝ }
     requires { ⌜ Begins (now types) (now fun) recording (fresh (now memo) (now forms) (now whats)) ⌝ }
     ensures { λ r. ⌜ Runs (was types) (was fun) recording memo forms whats out r ⌝ }
 {
     clear_visited(memo);
-    let mut waits = [0u32; 256];
+    let mut waits = [0u64; 4];
     let mut v = open_pass(
         types,
         offs,
@@ -171,7 +173,7 @@ fn run(
         let Visit::Over(o) = v else {
             return v;
         };
-        let p = pop(&mut waits, ranks, nblocks(fun));
+        let p = pop(&mut waits, blocks, nblocks(fun));
         let Popped::Block(b) = p else {
             return Visit::Over(o);
         };
@@ -188,6 +190,21 @@ fn run(
             b,
             o,
         );
+    }
+}
+
+// The block of each rank.
+fn invert(fun: &[u32], blocks: &mut [u32])
+    requires { ⌜ Formed (now fun) ⌝ }
+    requires { ⌜ 256 ≤ length (now blocks) ⌝ }
+    ensures { λ r. ⌜ Ordered (was fun) (after blocks) ⌝ }
+{
+    let n = nblocks(fun);
+    let mut b = 0;
+    while b < n {
+        let r = rank_of(fun, b);
+        blocks[r] = b as u32;
+        b += 1;
     }
 }
 
@@ -208,17 +225,14 @@ pub fn analyse(
     ensures { λ r. ⌜ Analysed (was types) (was fun) (was forms) (was whats) (was out) (after forms) (after whats) (after out) r ⌝ }
 {
     let mut memo = [0u32; 512];
-    let l = nlocals(fun);
-    let n = nblocks(fun);
-    let a = 4 + l + n;
-    let e = a + n;
-    let ranks = &fun[a..e];
+    let mut blocks = [0u32; 256];
+    invert(fun, &mut blocks);
     let v = run(
         types,
         offs,
         fun,
         points,
-        ranks,
+        &blocks,
         &mut memo,
         forms,
         whats,
@@ -233,7 +247,7 @@ pub fn analyse(
         offs,
         fun,
         points,
-        ranks,
+        &blocks,
         &mut memo,
         forms,
         whats,

@@ -1,7 +1,7 @@
 -- `fold_unfold::marked_statements` meets its contract: by the tests, the passes and the end of the record. Assumes nothing.
 use borrow.Author.Needs.{needs}
 use mathlib.Core.Path.{_∙_}
-use Rattle.fold_unfold.proofs.Begun.{zero-word}
+use Rattle.base.specs.Equal.{zero-word}
 use Rattle.fold_unfold.proofs.Answered.{tests-refuse, passes-refuse, accepts-counted, buffer-refuses, record-written}
 use Rattle.fold_unfold.proofs.marked_statements.Statement.{statement}
 use Rattle.fold_unfold.proofs.marked_statements.Tie as tie

@@ -40,8 +40,8 @@ small-requires c κs = search needs
 set-stored-requires : tie.Need-set-stored-requires
 set-stored-requires c κs = let v = c .before .before .before .before .before .before .before .before .before .before .before .before .before .before .before .before .before .before .before .before .pre .1 .1 .0 in (v .block, v .long)
 
-insert-requires : tie.Need-insert-requires
-insert-requires c κs = c .before .before .before .before .before .before .before .before .before .before .before .before .before .before .before .before .before .before .before .before .before .before .before .before .pre .1 .1 .1
+wait-requires : tie.Need-wait-requires
+wait-requires c κs = let z : tie.Start = search in (z .pre .0 .formed, z .pre .1 .1 .1)
 
 same-length : tie.Need-same-length
 same-length c = search needs
@@ -62,8 +62,8 @@ returns c =
     let v₀ = c .before .before .before .before .before .before .before .before .before .before .before .before .before .before .before .before .before .before .before .before .before .before .before .before .before .before .before .pre .1 .1 .0 in (
       λ o E v h.
           rw (saved-bare _ _ _ _ _ o v (sym (c .before .before .before .before .before .before .before .before .before .before .before .before .before .before .before .before .before .before .stored .ensures) ∙ c .before .before .before .before .before .before .before .before .before .before .before .before .before .before .before .before .before .if1 .taken))
-          (arrives-first h (kept-inside v₀) (c .before .before .before .before .before .before .before .small .ensures ∙ mod-eq-of-lt (omega (arith, h .shape .few))) (w .ensures .0) (w .ensures .1) (k .kept) (c .before .before .insert .ensures)),
-      record { memo = k .same; visited = k .visited; waits = c .before .before .insert .kept .0; forms = w .kept .1 .0; whats = w .kept .1 .1 .0 },
+          (arrives-first h (kept-inside v₀) (c .before .before .before .before .before .before .before .small .ensures ∙ mod-eq-of-lt (omega (arith, h .shape .few))) (w .ensures .0) (w .ensures .1) (k .kept) (c .before .before .wait .ensures)),
+      record { memo = k .same; visited = k .visited; waits = c .before .before .wait .kept .0; forms = w .kept .1 .0; whats = w .kept .1 .1 .0 },
     )
 
 wide-requires : tie.Need-wide-requires
@@ -163,10 +163,11 @@ set-stored-requires-2 c κs =
     let v = (start (load j)) .pre .1 .1 .0 in
     (v .block, v .long)
 
-insert-requires-2 : tie.Need-insert-requires-2
-insert-requires-2 c κs =
+wait-requires-2 : tie.Need-wait-requires-2
+wait-requires-2 c κs =
     let t : tie.Then2 = search in
-    (start (load (joined t))) .pre .1 .1 .1
+    let p = (start (load (joined t))) .pre in
+    (p .0 .formed, p .1 .1 .1)
 
 same-length-8 : tie.Need-same-length-8
 same-length-8 c = search needs
@@ -187,8 +188,8 @@ returns-3 c =
     let k = c .before .before .before .before .before .before .set-stored2 .ensures in (
       λ o E v h.
           let l = loaded (load j) o v in
-          rw (l .is) (arrives-changed (met j o E v h) (l .full .valid) (holds-valid h) (c .before .before .before .before .before .before .before .before .before .before .before .j .given .1) (c .before .before .before .before .before .before .before .before .before .if2 .taken) (kept-inside ((start (load j)) .pre .1 .1 .0)) (c .before .before .before .before .before .before .before .small2 .ensures ∙ mod-eq-of-lt (omega (arith, few t))) (k .kept) (c .before .before .insert2 .ensures)),
-      record { memo = k .same; visited = k .visited; waits = c .before .before .insert2 .kept .0; forms = j .join-into .kept .1 .1 .1 .1 .1 .0; whats = j .join-into .kept .1 .1 .1 .1 .1 .1 .0 },
+          rw (l .is) (arrives-changed (met j o E v h) (l .full .valid) (holds-valid h) (c .before .before .before .before .before .before .before .before .before .before .before .j .given .1) (c .before .before .before .before .before .before .before .before .before .if2 .taken) (kept-inside ((start (load j)) .pre .1 .1 .0)) (c .before .before .before .before .before .before .before .small2 .ensures ∙ mod-eq-of-lt (omega (arith, few t))) (k .kept) (c .before .before .wait2 .ensures)),
+      record { memo = k .same; visited = k .visited; waits = c .before .before .wait2 .kept .0; forms = j .join-into .kept .1 .1 .1 .1 .1 .0; whats = j .join-into .kept .1 .1 .1 .1 .1 .1 .0 },
     )
 
 same-length-12 : tie.Need-same-length-12
@@ -216,7 +217,7 @@ merge-spec =
     add-small
     small-requires
     set-stored-requires
-    insert-requires
+    wait-requires
     same-length
     same-length-2
     same-length-3
@@ -236,7 +237,7 @@ merge-spec =
     add-small-2
     small-requires-2
     set-stored-requires-2
-    insert-requires-2
+    wait-requires-2
     same-length-8
     same-length-9
     same-length-10

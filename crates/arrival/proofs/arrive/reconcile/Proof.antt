@@ -133,10 +133,11 @@ returns c =
     let k : tie.After-collect-fold-unfolds = search in
     (λ S E v h. reconciles-over (here k) (dashed k S E) (k .collect-fold-unfolds .kept .1 .1 .1 .1 .1 .0) (told k S E v h) (c .before .before .before .a2 .given .1) (w .visited .ensures) (rw (c .if1 .taken) refl), refl)
 
-insert-requires : tie.Need-insert-requires
-insert-requires c κs =
+wait-requires : tie.Need-wait-requires
+wait-requires c κs =
     let k : tie.After-collect-fold-unfolds = search in
-    (start (load k)) .pre .1 .1 .1 .0
+    let p = (start (load k)) .pre in
+    (p .0 .formed, p .1 .1 .1 .0)
 
 same-length-2 : tie.Need-same-length-2
 same-length-2 c = search needs
@@ -156,8 +157,8 @@ returns-3 : tie.Need-returns-3
 returns-3 c =
     let w : tie.After-visited = search in
     let k : tie.After-collect-fold-unfolds = search in (
-      λ S E v h. reconciles-over (here k) (dashed k S E) (k .collect-fold-unfolds .kept .1 .1 .1 .1 .1 .0) (told k S E v h) (c .before .before .before .before .before .before .before .a2 .given .1) (w .visited .ensures) (rw (c .before .before .before .before .if1 .left) (c .before .before .insert .ensures)),
-      c .before .before .insert .kept .0,
+      λ S E v h. reconciles-over (here k) (dashed k S E) (k .collect-fold-unfolds .kept .1 .1 .1 .1 .1 .0) (told k S E v h) (c .before .before .before .before .before .before .before .a2 .given .1) (w .visited .ensures) (rw (c .before .before .before .before .if1 .left) (c .before .before .wait .ensures)),
+      c .before .before .wait .kept .0,
     )
 
 pub reconcile-spec : {M : Type 1} → statement M
@@ -177,7 +178,7 @@ reconcile-spec =
     visited-requires
     same-length
     returns
-    insert-requires
+    wait-requires
     same-length-2
     returns-2
     same-length-3

@@ -4,7 +4,7 @@ use borrow.Author.Needs.{needs}
 use mathlib.Core.Path.{_≡_, refl, sym, subst, _∙_}
 use mathlib.Core.Bool.{Bool, true}
 use mathlib.Core.List.{List}
-use Prim.Native.Nat.{ℕ, _+_, _≤_, _<_}
+use Prim.Native.Nat.{ℕ, _+_, _≤_}
 use native.Mathlib.Omega.{arith}
 use lib.ListN.{length}
 use Rattle.model.specs.Words.{word}
@@ -13,7 +13,7 @@ use Rattle.model.specs.Function.{local-types}
 use Rattle.base.specs.Tests.{split-option}
 use Rattle.blocks.specs.Points.{share-number}
 use Rattle.arrival.specs.Memory.{arrives}
-use Rattle.arrival.specs.Shares.{kept-in, Saved}
+use Rattle.arrival.specs.Shares.{kept-in, Saved, Waits-for}
 use Rattle.arrival.specs.Arrivals.{Shelved, Filled}
 use Rattle.arrival.specs.Visits.{exit}
 use Rattle.arrival.proofs.Memo.{parts-long, kept-length}
@@ -31,7 +31,7 @@ record Room (types fun memo waits forms whats : List ℕ) (c p : ℕ) : Type 0 w
   high : p ≤ 256
   forms-room : base p + 512 ≤ length forms
   whats-room : base p + 512 ≤ length whats
-  waiting : c < length waits
+  waiting : Waits-for fun c waits
   shelved : Shelved types fun memo (lent-of forms p) (lent-of whats p) c
 
 -- the beginning, from where the number is read
@@ -60,7 +60,7 @@ room w =
       high = omega (arith, N .1, q, few, points-few (s .args .fun .now));
       forms-room = omega (arith, I .0, q);
       whats-room = omega (arith, I .1, q);
-      waiting = omega (arith, R .long .waits, l, few);
+      waiting = (l, R .long .waits);
       shelved = record {
         stored = p .1 .1 .0 .memory .kept (s .args .j .block);
         is = lent-saved R l j few q;

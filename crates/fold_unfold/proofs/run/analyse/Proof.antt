@@ -2,26 +2,26 @@
 -- second, and both are model's. Assumes nothing.
 use borrow.Author.Needs.{needs}
 use mathlib.Core.Path.{refl}
-use Prim.Native.Nat.{ℕ, _+_, _-_}
+use Prim.Native.Nat.{ℕ}
 use native.Mathlib.Omega.{arith}
-use lib.ListN.{take, drop, replicate, length-replicate}
+use lib.ListN.{replicate, length-replicate}
 use Rattle.demand.specs.Whole.{Passed}
 use Rattle.arrival.specs.Shares.{Remembers}
-use Rattle.fold_unfold.specs.Runs.{blank, again, fresh, Ranked}
-use Rattle.fold_unfold.proofs.Begun.{zeros-remembered, ranks-there}
+use Rattle.fold_unfold.specs.Runs.{blank, again, fresh}
+use Rattle.fold_unfold.proofs.Begun.{zeros-remembered}
 use Rattle.fold_unfold.proofs.Both.{first-sound, first-stops, first-goes, second-begins, second-ends}
 use Rattle.fold_unfold.proofs.run.analyse.Statement.{statement}
 use Rattle.fold_unfold.proofs.run.analyse.Tie as tie
 
 -- POINTS
 
--- the function's entry, from where the counts of locals and blocks are known
-abbrev start : tie.After-nblocks → tie.Start
+-- the function's entry, from where the block of each rank is known
+abbrev start : tie.After-invert → tie.Start
 start u = search
 
--- these counts, before each pass
-abbrev counts : tie.After-run-arg3 → tie.After-nblocks
-counts u = search
+-- that, before each pass
+abbrev order : tie.After-run-arg3 → tie.After-invert
+order u = search
 
 -- the first pass, before the second
 abbrev first : tie.After-run-arg6 → tie.After-run
@@ -33,13 +33,6 @@ second u = search
 
 -- WHAT EACH PASS NEEDS
 
--- the ranks of the blocks
-ranked : (c : tie.After-nblocks) → let f = start c .args .fun .now in
-    let l = c .before .nlocals .result in
-    let n = c .nblocks .result in
-    Ranked f (take (4 + l + n + n - (4 + l + n)) (drop (4 + l + n) f))
-ranked c = ranks-there _ _ _ (start c .pre .0 .formed .laid) (c .before .nlocals .ensures) (c .nblocks .ensures)
-
 -- both records pass
 passed : (s : tie.Start) → Passed (s .args .types .now) (s .args .fun .now)
 passed s = record { types = s .pre .0 .ready .typed; function = s .pre .0 .function; places = s .pre .0 .places }
@@ -48,41 +41,23 @@ passed s = record { types = s .pre .0 .ready .typed; function = s .pre .0 .funct
 zeros : (s : tie.Start) → Remembers (s .args .types .now) (s .args .fun .now) blank (fresh (replicate 512 0) (s .args .forms .now) (s .args .whats .now))
 zeros s = zeros-remembered (s .pre .1 .1 .0) (s .pre .1 .1 .1)
 
-nlocals-requires : tie.Need-nlocals-requires
-nlocals-requires c κs = search needs
+slice-aggregate-invert : tie.Need-slice-aggregate-invert
+slice-aggregate-invert c = search needs
 
-nblocks-requires : tie.Need-nblocks-requires
-nblocks-requires c κs = search needs
-
-add-a : tie.Need-add-a
-add-a c = search needs
-
-add-a-2 : tie.Need-add-a-2
-add-a-2 c = search needs
-
-add-e : tie.Need-add-e
-add-e c = search needs
-
-mul-ranks : tie.Need-mul-ranks
-mul-ranks c = search needs
-
-sub-ranks : tie.Need-sub-ranks
-sub-ranks c = search needs
-
-part-ranks-start : tie.Need-part-ranks-start
-part-ranks-start c = search needs
-
-part-ranks-end : tie.Need-part-ranks-end
-part-ranks-end c = search needs
+invert-requires : tie.Need-invert-requires
+invert-requires c κs = let s : tie.Start = search in (s .pre .0 .formed, omega (arith, length-replicate {A = ℕ} 256 0))
 
 slice-aggregate-run : tie.Need-slice-aggregate-run
 slice-aggregate-run c = search needs
 
+slice-aggregate-run-2 : tie.Need-slice-aggregate-run-2
+slice-aggregate-run-2 c = search needs
+
 run-requires : tie.Need-run-requires
 run-requires c κs =
-    let n = counts c in
+    let n = order c in
     let s = start n in
-    (s .pre .0, (s .pre .1 .0, (ranked n, (omega (arith, length-replicate {A = ℕ} 512 0), record { memory = blank; is = zeros s; starts = refl; goes = first-sound (passed s) }))))
+    (s .pre .0, (s .pre .1 .0, (n .invert .ensures, (omega (arith, length-replicate {A = ℕ} 512 0), record { memory = blank; is = zeros s; starts = refl; goes = first-sound (passed s) }))))
 
 enum-told : tie.Need-enum-told
 enum-told c = search needs
@@ -102,22 +77,25 @@ same-length-3 c = search needs
 returns : tie.Need-returns
 returns c =
     let r : tie.After-run = search in
-    first-stops (r .run .ensures blank refl (zeros (start (counts (r .before))))) (c .enum-told2 .given .1)
+    first-stops (r .run .ensures blank refl (zeros (start (order (r .before))))) (c .enum-told2 .given .1)
 
-slice-aggregate-run-2 : tie.Need-slice-aggregate-run-2
-slice-aggregate-run-2 c = search needs
+slice-aggregate-run-3 : tie.Need-slice-aggregate-run-3
+slice-aggregate-run-3 c = search needs
+
+slice-aggregate-run-4 : tie.Need-slice-aggregate-run-4
+slice-aggregate-run-4 c = search needs
 
 run-requires-2 : tie.Need-run-requires-2
 run-requires-2 c κs =
     let r = first c in
     let e : tie.After-enum-told = search in
-    let n = counts (r .before) in
+    let n = order (r .before) in
     let s = start n in (
       s .pre .0,
       (
         s .pre .1 .0,
         (
-          ranked n,
+          n .invert .ensures,
           (
             omega (arith, r .run .kept .1 .1 .1 .1 .1 .0, length-replicate {A = ℕ} 512 0),
             second-begins (first-goes (r .run .ensures blank refl (zeros s)) (e .enum-told .given .1)) (passed s),
@@ -140,7 +118,7 @@ returns-2 c =
     let t = second c in
     let e : tie.After-enum-told = search in
     let r = first (t .before) in
-    let E = r .run .ensures blank refl (zeros (start (counts (r .before)))) in
+    let E = r .run .ensures blank refl (zeros (start (order (r .before)))) in
     let H = first-goes E (e .enum-told .given .1) in
     second-ends H (t .run2 .ensures (again (H .memory .kept)) (H .memory .kept, refl, H .inferred) (H .remembers)) (E .same-forms) (E .same-whats) (E .same-out)
 
@@ -148,16 +126,10 @@ pub analyse-spec : {M : Type 1} → statement M
 analyse-spec =
     tie.close
     (tie.spec
-    nlocals-requires
-    nblocks-requires
-    add-a
-    add-a-2
-    add-e
-    mul-ranks
-    sub-ranks
-    part-ranks-start
-    part-ranks-end
+    slice-aggregate-invert
+    invert-requires
     slice-aggregate-run
+    slice-aggregate-run-2
     run-requires
     enum-told
     enum-told-2
@@ -165,7 +137,8 @@ analyse-spec =
     same-length-2
     same-length-3
     returns
-    slice-aggregate-run-2
+    slice-aggregate-run-3
+    slice-aggregate-run-4
     run-requires-2
     same-length-4
     same-length-5

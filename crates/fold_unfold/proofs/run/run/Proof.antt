@@ -14,7 +14,7 @@ use Rattle.fold_unfold.proofs.Rounds.{opened-pass}
 use Rattle.fold_unfold.proofs.Going.{pops-none, going-over, going-refused, stands-rests, stands-turns, stands-less}
 use Rattle.fold_unfold.proofs.run.run.Statement.{statement}
 use Rattle.fold_unfold.proofs.run.run.Tie as tie
-use Rattle.fold_unfold.proofs.run.run.Proof.Pass.{Inv-loop, μ-loop, cleared, clears, start, top, over, takes, turn, begins, sound, starts-lines, passed, going, alike, same-memo, Standing, standing, stands, chosen, turned, unwaited, visits}
+use Rattle.fold_unfold.proofs.run.run.Proof.Pass.{Inv-loop, μ-loop, cleared, clears, start, top, over, takes, turn, begins, sound, starts-lines, passed, going, alike, same-memo, Standing, standing, stands, pops, turned, unwaited, visits}
 
 clear-visited-requires : tie.Need-clear-visited-requires Inv-loop μ-loop
 clear-visited-requires c κs = let s : tie.Start Inv-loop μ-loop = search in s .pre .1 .1 .1 .0
@@ -74,7 +74,7 @@ pop-requires : tie.Need-pop-requires Inv-loop μ-loop
 pop-requires c κs =
     let o : tie.After-v Inv-loop μ-loop = search in
     let s = start (top o) in
-    omega (arith, c .nblocks .ensures, stands o .remembers .long .waits, s .pre .0 .formed .laid .most-blocks, s .pre .1 .1 .0 .long)
+    (stands o .remembers .long .waits, (omega (arith, c .nblocks .ensures, s .pre .0 .formed .laid .most-blocks), omega (arith, c .nblocks .ensures, s .pre .1 .1 .0 .long)))
 
 enum-known-p : tie.Need-enum-known-p Inv-loop μ-loop
 enum-known-p c = search needs
@@ -102,7 +102,7 @@ returns-2 c =
     let s = start (top o) in
     λ m i R.
     let A = standing o m (i, R) in
-    stands-rests A (passed s) (pops-none (s .pre .1 .1 .0) (A .remembers) (n .nblocks .ensures) (q .pop .ensures) (c .enum-told2 .given .1))
+    stands-rests A (passed s) (pops-none (q .pop .last .0) (s .pre .0 .formed) (s .pre .1 .1 .0) (A .remembers) (n .nblocks .ensures) (q .pop .ensures .0) (c .enum-told2 .given .1))
 
 slice-aggregate-turn : tie.Need-slice-aggregate-turn Inv-loop μ-loop
 slice-aggregate-turn c = let p : tie.After-p Inv-loop μ-loop = search in sym ((unwaited p (stands (over p))) .long .waits)
@@ -148,7 +148,7 @@ loop-again c =
       t .turn .kept .1 .1 .1 .1 .0 ∙ h .loop .inv .0,
       λ x b a G.
           let A : Standing (over p) x b a = going-over (h .loop .inv .1 x b a G) (over p .v .given .1) in
-          stands-turns A (turned p A) (visits t A) ((chosen p (A .remembers)) .1),
+          stands-turns A (turned p A) (visits t A) (pops p .pop .kept .0),
     )
 
 pub run-spec : {M : Type 1} → statement M

@@ -1,6 +1,6 @@
 -- `vectors::checks::passed` meets its contract. Assumes nothing.
 use borrow.Author.Needs.{needs}
-use Rattle.fold_unfold.proofs.Begun.{zero-word}
+use Rattle.base.specs.Equal.{zero-word}
 use Rattle.vectors.proofs.checks.passed.Statement.{statement}
 use Rattle.vectors.proofs.checks.passed.Tie as tie
 use Rattle.vectors.proofs.checks.passed.Reads as reads

@@ -5,15 +5,14 @@ use mathlib.Core.Logic.{_≢_}
 use mathlib.Core.Bool.{Bool, true, false}
 use mathlib.Core.List.{List, []}
 use mathlib.Core.Option.{some}
-use Prim.Native.Nat.{ℕ, _<_}
-use native.Mathlib.Omega.{arith}
-use lib.ListN.{length, set}
+use Prim.Native.Nat.{ℕ}
+use lib.ListN.{length}
 use Rattle.model.specs.Answer.{Answer, refused}
-use Rattle.model.specs.Rounds.{lowest}
+use Rattle.model.specs.Rounds.{lowest, put}
 use Rattle.model.specs.Function.{nblocks, rank}
 use Rattle.arrival.specs.Memory.{Memory, popped, enters}
 use Rattle.demand.specs.Whole.{Passed}
-use Rattle.arrival.specs.Shares.{Arrays, arrays-in, Alike, Remembers}
+use Rattle.arrival.specs.Shares.{waits-in, Arrays, arrays-in, Alike, Remembers}
 use Rattle.arrival.specs.Visits.{Visits}
 use Rattle.fold_unfold.specs.Runs.{opens, pass, Starts, fresh}
 use Rattle.fold_unfold.proofs.Rounds.{Turned, turns, opened-steady, opened-pass}
@@ -25,13 +24,13 @@ use Rattle.fold_unfold.proofs.Weight.{weight, height}
 use Rattle.fold_unfold.proofs.run.run.Tie as tie
 
 abbrev pub Inv-loop : tie.InvT-loop
-Inv-loop types offs fun points ranks memo₀ forms₀ whats₀ out₀ recording waits₀ v₀ memo forms whats out waits v =
+Inv-loop types offs fun points blocks memo₀ forms₀ whats₀ out₀ recording waits₀ v₀ memo forms whats out waits v =
     (length memo ≡ length memo₀)
     × ((x : Arrays) (b : List ℕ) (a : Answer Memory) → Going types fun recording x b a (arrays-in memo₀ waits₀ forms₀ whats₀) out₀ v₀
     → Going types fun recording x b a (arrays-in memo waits forms whats) out v)
 
 abbrev pub μ-loop : tie.MeasureT-loop
-μ-loop types offs fun points ranks memo₀ forms₀ whats₀ out₀ recording waits₀ v₀ memo forms whats out waits v =
+μ-loop types offs fun points blocks memo₀ forms₀ whats₀ out₀ recording waits₀ v₀ memo forms whats out waits v =
     height v (weight types fun (arrays-in memo waits forms whats) recording)
 
 -- POINTS
@@ -152,10 +151,11 @@ stands c = let (m, i) = begins (start (top c)) in standing c m i
 -- the block that is popped, by any memory that the arrays have: it is the lowest, and waits no more
 pub chosen : (c : tie.After-p Inv-loop μ-loop) {m : Memory} → let h = top (over c) in
     let a = start h .args in Remembers (a .types .now) (a .fun .now) m (head h)
-    → (lowest (rank (a .fun .now)) (m .waits) (nblocks (a .fun .now)) ≡ some (c .p .given .0 .0)) × (pops c .pop .last .0 ≡ set (h .loop .waits) (c .p .given .0 .0) 0)
+    → (lowest (rank (a .fun .now)) (m .waits) (nblocks (a .fun .now)) ≡ some (c .p .given .0 .0)) × (waits-in (a .fun .now) (pops c .pop .last .0) ≡ put (waits-in (a .fun .now) (h .loop .waits)) (c .p .given .0 .0) false)
 chosen c R =
     let n : tie.After-nblocks Inv-loop μ-loop = search in
-    pops-block (start (top (over c)) .pre .1 .1 .0) R (n .nblocks .ensures) (pops c .pop .ensures) (c .p .given .1)
+    let s = start (top (over c)) in
+    pops-block (pops c .pop .last .0) (s .pre .0 .formed) (s .pre .1 .1 .0) R (n .nblocks .ensures) (pops c .pop .ensures .0) (c .p .given .1)
 
 -- its turn
 pub turned : (c : tie.After-p Inv-loop μ-loop) {x : Arrays} {b : List ℕ} {a : Answer Memory} (A : Standing (over c) x b a) → let s = start (top (over c)) in
@@ -170,9 +170,7 @@ pub unwaited : (c : tie.After-p Inv-loop μ-loop) {x : Arrays} {b : List ℕ} {a
     Remembers (s .args .types .now) (s .args .fun .now) (unwaiting (c .p .given .0 .0) (A .memory)) (arrays-in (h .loop .memo) (pops c .pop .last .0) (h .loop .forms) (h .loop .whats))
 unwaited c A =
     let h = top (over c) in
-    let b = c .p .given .0 .0 in
-    let l : b < length (h .loop .waits) = omega (arith, (turned c A) .below, A .remembers .long .waits, start h .pre .0 .formed .laid .most-blocks) in
-    remembers-unwaiting (A .remembers) b l ((chosen c (A .remembers)) .1)
+    remembers-unwaiting (A .remembers) (c .p .given .0 .0) (pops c .pop .kept .0) ((chosen c (A .remembers)) .1)
 
 -- what the turn leaves in the arrays
 abbrev pub behind : tie.After-turn Inv-loop μ-loop → Arrays
