@@ -150,6 +150,48 @@ pub fn rounds() -> Input {
     Input::new(&types, &function)
 }
 
+/// Many visits with little to do, while half of the blocks wait: a head leads to 204 join points that
+/// only stop, and 50 others wait until those are done. Each of the others changes one thing in a small
+/// state and goes to the head, so that the 204 wait again. The start leads to all blocks, itself too, and
+/// to the others twice, so that all are join points. The ranks are in no order of the blocks.
+pub fn waiting() -> Input {
+    const POINTERS: usize = 5;
+    const LEVELS: usize = 9;
+    let mut types = Types::new();
+    let int = types.opaque();
+    let nest = (0..LEVELS).fold(int, |inner, _| types.structure(&[inner]));
+    let pointer = types.plain_pointer(nest);
+    let mut function = Function::new(int, &[pointer; POINTERS], &[]);
+    // A use opens one level more behind a pointer; after the last level, one folds the pointer.
+    let mut changes = vec![];
+    for pointer in (1..=POINTERS as u32).map(Place::local) {
+        let mut inner = pointer.clone().deref();
+        function.used_at_entry(&inner);
+        for _ in 0..LEVELS {
+            inner = inner.field(0);
+            changes.push(inner.clone());
+        }
+        changes.push(pointer);
+    }
+    let mut by_rank = labels(&mut function, MAX_BLOCKS);
+    Rng::new(5).shuffle(&mut by_rank[1..]);
+    let mut ranks = [0; MAX_BLOCKS];
+    (0..).zip(&by_rank).for_each(|(rank, label)| ranks[label.number() as usize] = rank);
+    function.set_ranks(&ranks);
+    let (head, rest) = (by_rank[1], &by_rank[2..]);
+    let (stops, others) = rest.split_at(rest.len() - changes.len());
+    let lead = |to: &[Label]| {
+        let switch = Open::new().switch_constant();
+        to.iter().fold(switch, |switch, &label| switch.arm(0, label)).otherwise(head)
+    };
+    function.write(by_rank[0], lead(&[&by_rank[..], others].concat()));
+    function.write(head, lead(stops));
+    for (&label, change) in others.iter().zip(&changes) {
+        function.write(label, Open::new().used(change).goto(head));
+    }
+    Input::new(&types, &function)
+}
+
 /// 4,096 types with 14,322 parts, and a function that looks at few of them.
 pub fn many_types() -> Input {
     let mut types = Types::new();
@@ -238,7 +280,18 @@ pub fn assigns(count: usize) -> Vec<Assign> {
 
 #[cfg(test)]
 mod tests {
+    use std::collections::hash_map::{Entry, HashMap};
+
+    use hirvoksne::SHARE;
+    use oracle::{
+        calls,
+        env::Env,
+        function::{Body, Statement, START_BLOCK},
+        queue::WorkQueue,
+    };
+
     use super::*;
+    use crate::left::Left;
 
     /// Join points, and the most open nodes of a stored state.
     fn stored(input: &Input) -> (usize, usize) {
@@ -261,6 +314,65 @@ mod tests {
     #[test]
     fn rounds_reach_all() {
         assert_eq!(stored(&rounds()), (100, 101));
+        assert!(visits(&rounds()) > 5_000);
+    }
+
+    /// How often the first pass pops a block, by the transcription's parts: of a function without a match,
+    /// in which all blocks are join points, or all but the start.
+    fn visits(input: &Input) -> usize {
+        let types = oracle::types::Types::read(&input.types).unwrap();
+        let body = Body::read(&types, &input.function).unwrap();
+        let mut queue = WorkQueue::empty(body.basic_blocks.len(), &body.rank);
+        let (mut stored, mut visits) = (HashMap::new(), 0);
+        let mut env = Env::new(&body.local_types);
+        for used in &body.entry_uses {
+            env.projection(&types, &used.place).unwrap();
+        }
+        let mut arrivals = vec![(START_BLOCK, env)];
+        loop {
+            for (block, env) in arrivals.drain(..) {
+                let changed = match stored.entry(block) {
+                    Entry::Occupied(mut entry) => Env::join(entry.get_mut(), &types, env).unwrap(),
+                    Entry::Vacant(entry) => {
+                        entry.insert(env);
+                        true
+                    }
+                };
+                if changed {
+                    queue.insert(block);
+                }
+            }
+            let Some(block) = queue.pop() else { return visits };
+            visits += usize::from(body.is_join_point(block));
+            let mut env: Env = stored[&block].clone();
+            for statement in &body.basic_blocks[block].statements {
+                let Statement::Use(used) = statement else { panic!("a match") };
+                env.projection(&types, &used.place).unwrap();
+            }
+            let targets = body.basic_blocks[block].targets().into_iter();
+            arrivals.extend(targets.map(|target| (target.block, env.clone())));
+        }
+    }
+
+    /// The start, the head and the 204 after it are popped first, then each of the 50 others, and the 205
+    /// again. The others keep the five pointers open.
+    #[test]
+    fn waiting_visits() {
+        assert_eq!(stored(&waiting()), (256, 5));
+        assert_eq!(visits(&waiting()), 1 + 205 + 50 * (1 + 205));
+    }
+
+    /// What is recorded follows the order of the visits, and is the transcription's.
+    #[test]
+    fn waiting_answers() {
+        let Input { types, function } = waiting();
+        let statements = hirvoksne::ghost_statements(&types, &function).unwrap();
+        let room = [256 * SHARE, 256 * SHARE, statements.record().len(), statements.len()];
+        let left = Left::by(room, 0xaa, |forms, whats, out, told| {
+            calls::ghost_statements(&types, &function, forms, whats, out, told)
+        });
+        assert_eq!(statements.record(), left.out);
+        assert_eq!(statements.numbers(), left.told);
     }
 
     /// 63 open structs of 8 fields, one of one field, and five locals.
