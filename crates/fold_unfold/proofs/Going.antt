@@ -52,7 +52,7 @@ module _ {Γ fn blocks : List ℕ} {m : Memory} {a : Arrays} {n : ℕ} (waits′
 
   -- what is next is model's
   next-is : lowest (rank fn) (waits-in fn (a .waits)) (nblocks fn) ≡ lowest (rank fn) (m .waits) (nblocks fn)
-  next-is = lowest-same (rank fn) (rank fn) (waits-in fn (a .waits)) (m .waits) (nblocks fn) (λ b l. refl) (λ b l. sym (R .waits b l))
+  next-is = lowest-same (rank fn) (waits-in fn (a .waits)) (m .waits) (nblocks fn) (λ b l. sym (R .waits b l))
 
   -- nothing waits
   pub pops-none : r ≡ Empty → lowest (rank fn) (m .waits) (nblocks fn) ≡ none

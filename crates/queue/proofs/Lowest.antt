@@ -4,24 +4,18 @@ use mathlib.Core.Bool.{Bool, true, false}
 use mathlib.Core.Option.{none, some}
 use Prim.Native.Nat.{ℕ, zero, suc, _≤_, _<_}
 use native.Mathlib.Omega.{arith}
-use lib.Dec.{ltb}
-use Rattle.model.specs.Rounds.{better, lowest}
+use Rattle.model.specs.Rounds.{lowest}
 use Rattle.base.specs.Tests.{split, split-option, clash}
 use Rattle.solver.specs.Lowest.{lowest-none, lowest-some, lowest-rank}
 
--- ranks and waiting blocks that agree below n have one lowest
-pub lowest-same : (r q : ℕ → ℕ) (v w : ℕ → Bool) (n : ℕ) → ((b : ℕ) → b < n → r b ≡ q b) → ((b : ℕ) → b < n → v b ≡ w b) → lowest r v n ≡ lowest q w n
-unfolding lowest better
-lowest-same r q v w zero f g = refl
-lowest-same r q v w (suc n) f g =
-    let k = lowest-same r q v w n (λ b l. f b (omega arith)) (λ b l. g b (omega arith)) in
-    let a = f n (omega arith) in
-    let e = g n (omega arith) in
-    split (v n)
-    (λ d. split-option (lowest q w n)
-    (λ j. cc)
-    (λ b j. let i = f b (omega (arith, lowest-some q w n b j)) in split (ltb (q n) (q b)) (λ t. cc) (λ t. cc)))
-    (λ d. cc)
+-- sets that agree below n have one lowest
+pub lowest-same : (rank : ℕ → ℕ) (v w : ℕ → Bool) (n : ℕ) → ((b : ℕ) → b < n → v b ≡ w b) → lowest rank v n ≡ lowest rank w n
+unfolding lowest
+lowest-same rank v w zero f = refl
+lowest-same rank v w (suc n) f =
+    let k = lowest-same rank v w n (λ b l. f b (omega arith)) in
+    let e = f n (omega arith) in
+    split (v n) (λ d. cc) (λ d. cc)
 
 module _ (rank : ℕ → ℕ) (waits : ℕ → Bool) (n : ℕ) where
   -- none waits

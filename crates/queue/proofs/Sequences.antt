@@ -51,7 +51,7 @@ module _ {rank : ℕ → ℕ} {n : ℕ} (R : Ranking rank n) {blocks : List ℕ}
 
   -- a pop has the same answer
   pop-same : {bits waits : List ℕ} → Agree bits waits → bit-popped blocks n bits ≡ lowest rank (flagged waits) n
-  pop-same {bits} {waits} A = (bit-pops R bits (A .four) I) .0 ∙ lowest-same rank rank (waiting rank n bits) (flagged waits) n (λ b l. refl) (A .same)
+  pop-same {bits} {waits} A = (bit-pops R bits (A .four) I) .0 ∙ lowest-same rank (waiting rank n bits) (flagged waits) n (A .same)
 
   -- after it
   gone : {bits waits : List ℕ} → Agree bits waits → (o : Option ℕ) → lowest rank (flagged waits) n ≡ o
@@ -75,7 +75,7 @@ module _ {rank : ℕ → ℕ} {n : ℕ} (R : Ranking rank n) {blocks : List ℕ}
         long = cleared-long waits o ∙ A .long;
         same = λ c k.
             ap (λ (f : ℕ → Bool). f c) q
-            ∙ ap (λ (x : Option ℕ). without (waiting rank n bits) x c) (lowest-same rank rank (waiting rank n bits) (flagged waits) n (λ b l. refl) (A .same))
+            ∙ ap (λ (x : Option ℕ). without (waiting rank n bits) x c) (lowest-same rank (waiting rank n bits) (flagged waits) n (A .same))
             ∙ gone A o refl c k;
       }
 
