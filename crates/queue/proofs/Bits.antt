@@ -187,7 +187,7 @@ first-low (w ∷ ws) =
 
 -- FROM THE FRONT
 
--- the words before word k are 0
+-- the words before word k are 0: the first rank is found behind them
 abbrev pub Empty-to : List ℕ → ℕ → Type 0
 Empty-to bits k = first-rank bits ≡ 64 * k + first-rank (drop k bits)
 
