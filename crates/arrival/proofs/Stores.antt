@@ -142,7 +142,7 @@ module _ {Γ fn : List ℕ} {m : Memory} {kept visited waits forms whats : List 
       → length fs ≡ length (lent-of forms (share-number fn c)) → length ws ≡ length (lent-of whats (share-number fn c))
       → Took Γ (local-types fn) c kept (waits-in fn waits) w fs ws kept′ (waits-in fn waits′)
       → Remembers Γ fn (taken c w m) (arrays kept′ visited waits′ (shelved forms (share-number fn c) fs) (shelved whats (share-number fn c) ws))
-  taken-remembers {w} {fs} {ws} {kept′} {waits′} same four p q T =
+  taken-remembers {w} {fs} {ws} {kept′} {waits′} same long p q T =
       let L = R .long in
       let S = share-inside in
       let N = share-most fn c l j in
@@ -150,7 +150,7 @@ module _ {Γ fn : List ℕ} {m : Memory} {kept visited waits forms whats : List 
         long = record {
           kept = rw (T .count) (length-written (w .1) kept c _ ∙ L .kept);
           visited = L .visited;
-          waits = four ∙ L .waits;
+          waits = long ∙ L .waits;
           forms = rw (shelved-length forms fs (share-number fn c) (S .0) p) (L .forms);
           whats = rw (shelved-length whats ws (share-number fn c) (S .1) q) (L .whats);
         };
@@ -173,13 +173,13 @@ module _ {Γ fn : List ℕ} {m : Memory} {kept visited waits forms whats : List 
   pub marked-remembers : (x : Exit Forest) (ts : List At) {waits′ : List ℕ} → x .block ≡ c → length waits′ ≡ length waits
       → waits-in fn waits′ ≡ cond (eqb (word visited c) 0) (put (waits-in fn waits) c true) (waits-in fn waits)
       → Remembers Γ fn (marked x ts m) (arrays kept visited waits′ forms whats)
-  marked-remembers x ts {waits′} d four e =
+  marked-remembers x ts {waits′} d long e =
       let L = R .long in
       record {
         long = record {
           kept = L .kept;
           visited = L .visited;
-          waits = four ∙ L .waits;
+          waits = long ∙ L .waits;
           forms = L .forms;
           whats = L .whats;
         };

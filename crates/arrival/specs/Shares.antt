@@ -16,7 +16,8 @@ use Rattle.model.specs.Block.{is-join-point, join-points}
 use Rattle.model.specs.Rounds.{elem}
 use Rattle.laws.specs.Valid.{Valid}
 use Rattle.blocks.specs.Points.{share-number}
-use Rattle.queue.specs.Waiting.{waiting, Four}
+use Rattle.queue.specs.Bits.{Four}
+use Rattle.queue.specs.Waiting.{waiting}
 use Rattle.arrival.specs.Memory.{Memory}
 
 -- ONE SHARE
@@ -76,9 +77,9 @@ pub record Unvisited (memo memo′ : List ℕ) : Type 0 where
 abbrev pub waits-in : List ℕ → List ℕ → ℕ → Bool
 waits-in fn bits = waiting (rank fn) (nblocks fn) bits
 
--- the words have a bit for the rank of block b
-abbrev pub Waits-for : List ℕ → ℕ → List ℕ → Type 0
-Waits-for fn b bits = (b < nblocks fn) × Four bits
+-- b is one of the function's blocks, and its rank has a bit: there are four words
+abbrev pub Bit-for : List ℕ → ℕ → List ℕ → Type 0
+Bit-for fn b bits = (b < nblocks fn) × Four bits
 
 -- ALL ARRAYS
 

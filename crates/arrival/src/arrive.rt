@@ -10,7 +10,7 @@ ghost use Rattle.mir.specs.Sizes.{Formed};
 ghost use Rattle.state.specs.Share.{Share};
 ghost use Rattle.statements.specs.Kept.{Counted};
 ghost use Rattle.state.specs.Given.{Accepted, Stated};
-ghost use Rattle.arrival.specs.Shares.{waits-in, Waits-for};
+ghost use Rattle.arrival.specs.Shares.{waits-in, Bit-for};
 ghost use Rattle.arrival.specs.Arrivals.{Tests, Shelved, Filled, Arriving, Steady, Reconciling, Stands};
 use crate::jump::Jump;
 use crate::jump::Visit;
@@ -36,7 +36,7 @@ use type_record::record::wide;
 // The block c waits.
 fn wait(waits: &mut [u64], fun: &[u32], c: usize)
     requires { ⌜ Formed (now fun) ⌝ }
-    requires { ⌜ Waits-for (now fun) c (now waits) ⌝ }
+    requires { ⌜ Bit-for (now fun) c (now waits) ⌝ }
     ensures { λ r. ⌜ waits-in (was fun) (after waits) ≡ put (waits-in (was fun) (was waits)) c true ⌝ }
 {
     insert(waits, rank_of(fun, c));
@@ -90,7 +90,7 @@ fn merge(
     requires { ⌜ Accepted (now types) (now offs) (now fun) ⌝ }
     requires { ⌜ Stated (now types) (local-types (now fun)) s ⌝ }
     requires { ⌜ Shelved (now types) (now fun) (now memo) (now forms) (now whats) c ⌝ }
-    requires { ⌜ Waits-for (now fun) c (now waits) ⌝ }
+    requires { ⌜ Bit-for (now fun) c (now waits) ⌝ }
     ensures { λ r. ⌜ Arriving (was types) (was fun) c s memo waits forms whats r ⌝ }
     ensures lengths { λ r. ⌜ Steady memo waits forms whats ⌝ }
 {
@@ -128,7 +128,7 @@ pub fn arrive(
     requires { ⌜ Accepted (now types) (now offs) (now fun) ⌝ }
     requires { ⌜ Stated (now types) (local-types (now fun)) s ⌝ }
     requires { ⌜ Shelved (now types) (now fun) (now memo) (now forms) (now whats) c ⌝ }
-    requires { ⌜ Waits-for (now fun) c (now waits) ⌝ }
+    requires { ⌜ Bit-for (now fun) c (now waits) ⌝ }
     ensures { λ r. ⌜ Arriving (was types) (was fun) c s memo waits forms whats r ⌝ }
     ensures lengths { λ r. ⌜ Steady memo waits forms whats ⌝ }
 {
@@ -156,7 +156,7 @@ pub fn reconcile<'a>(
     requires { ⌜ Accepted (now types) (now offs) (now fun) ⌝ }
     requires { ⌜ Stated (now types) (local-types (now fun)) s ⌝ }
     requires { ⌜ Filled (now types) (now fun) (now memo) (now forms) (now whats) (j .block) ⌝ }
-    requires { ⌜ Waits-for (now fun) (j .block) (now waits) ⌝ }
+    requires { ⌜ Bit-for (now fun) (j .block) (now waits) ⌝ }
     requires { ⌜ j .item < nitems (now fun) ⌝ }
     requires { ⌜ Counted (now out) o ⌝ }
     ensures { λ r. ⌜ Reconciling (was types) (was fun) j s (was memo) (was forms) (was whats) waits out o r ⌝ }

@@ -12,6 +12,7 @@ use Rattle.model.specs.Function.{nblocks, rank}
 use Rattle.base.specs.Tests.{clash}
 use Rattle.base.specs.Answer.{split-answer}
 use Rattle.base.specs.Kinds.{Known}
+use Rattle.solver.specs.Lowest.{lowest-same}
 use Rattle.demand.specs.Whole.{Passed}
 use Rattle.mir.specs.Sizes.{Formed}
 use Rattle.blocks.proofs.Spots.{formed-accepted}
@@ -19,14 +20,13 @@ use Rattle.statements.specs.declared.Out.{Out}
 use Rattle.queue.specs.Popped.{answered, without, Pops, Popping}
 use Rattle.queue.specs.declared.Popped.{Popped}
 use Rattle.queue.specs.declared.Popped.the-variants.{Block, Empty}
-use Rattle.queue.proofs.Lowest.{lowest-same}
 use Rattle.queue.proofs.Waiting.{facts-ranking}
 use Rattle.arrival.specs.Memory.{Memory, popped, enters}
 use Rattle.arrival.specs.Shares.{waits-in, Arrays, arrays, Alike, Remembers}
 use Rattle.arrival.specs.Visits.{Spoken, Visits}
 use Rattle.arrival.specs.declared.jump.Visit.{Visit}
 use Rattle.arrival.specs.declared.jump.Visit.the-variants.{Over, Refused}
-use Rattle.fold_unfold.specs.Runs.{rest, Ordered, Ends}
+use Rattle.fold_unfold.specs.Runs.{rest, Inverted, Ends}
 use Rattle.fold_unfold.proofs.Rounds.{Steady, told, Turned, rests}
 use Rattle.fold_unfold.proofs.Weight.{weight, weight-is, height}
 use Rattle.visit.proofs.Entering.{visits-later}
@@ -45,7 +45,7 @@ answered-some none e = clash (cc)
 answered-some (some c) e = cc
 
 module _ {Γ fn blocks : List ℕ} {m : Memory} {a : Arrays} {n : ℕ} (waits′ : List ℕ) {r : Popped}
-    (F : Formed fn) (I : Ordered fn blocks) (R : Remembers Γ fn m a) (e : n ≡ nblocks fn) (P : Popping blocks n (a .waits) waits′ r) where
+    (F : Formed fn) (I : Inverted fn blocks) (R : Remembers Γ fn m a) (e : n ≡ nblocks fn) (P : Popping blocks n (a .waits) waits′ r) where
   -- by the function's ranks
   pops-ranked : Pops (rank fn) (nblocks fn) (waits-in fn (a .waits)) (waits-in fn waits′) r
   pops-ranked = subst (λ (k : ℕ). Popping blocks k (a .waits) waits′ r) e P (rank fn) (facts-ranking (formed-accepted F)) I

@@ -25,8 +25,7 @@ use Rattle.model.specs.Told.{number-ok, Numbered}
 use Rattle.model.specs.Promised.{One-of, whole-numbers}
 use Rattle.base.specs.Tests.{clash}
 use Rattle.base.specs.Answer.{split-answer}
-use Rattle.base.specs.Equal.{drop-replicate}
-use Rattle.base.specs.Equal.{zero-word}
+use Rattle.base.specs.Equal.{drop-replicate, zero-word}
 use Rattle.records.specs.Entries.{entries-of}
 use Rattle.demand.specs.Demand.{demand-3}
 use Rattle.demand.specs.Refused.{whole-refuses}

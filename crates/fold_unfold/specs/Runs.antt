@@ -90,8 +90,8 @@ Starts Γ fn false m = m ≡ blank
 Starts Γ fn true m = (kept : ℕ → Option Forest) × (m ≡ again kept) × Inferred Γ fn kept
 
 -- the block of each rank
-abbrev pub Ordered : (fn blocks : List ℕ) → Type 0
-Ordered fn blocks = Inverse (rank fn) (nblocks fn) blocks
+abbrev pub Inverted : (fn blocks : List ℕ) → Type 0
+Inverted fn blocks = Inverse (rank fn) (nblocks fn) blocks
 
 -- a pass begins, and model's answer to it is not 0
 pub record Begins (Γ fn : List ℕ) (recording : Bool) (a : Arrays) : Type 0 where

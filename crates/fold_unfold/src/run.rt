@@ -6,7 +6,7 @@ ghost use Rattle.mir.specs.Sizes.{Formed};
 ghost use Rattle.state.specs.Given.{Accepted};
 ghost use Rattle.arrival.specs.Shares.{arrays-in, change, Shared};
 ghost use Rattle.fold_unfold.specs.Answers.{Analysed};
-ghost use Rattle.fold_unfold.specs.Runs.{fresh, Stored, Ordered, Begins, Opening, Opens, Turns, Runs, Wiped, Store-long};
+ghost use Rattle.fold_unfold.specs.Runs.{fresh, Stored, Inverted, Begins, Opening, Opens, Turns, Runs, Wiped, Store-long};
 use arrival::jump::Visit;
 use arrival::memory::clear_visited;
 use arrival::memory::set_visited;
@@ -150,7 +150,7 @@ fn run(
 ) -> Visit
     requires { ⌜ Accepted (now types) (now offs) (now fun) ⌝ }
     requires { ⌜ Shared (now fun) (now points) ⌝ }
-    requires { ⌜ Ordered (now fun) (now blocks) ⌝ }
+    requires { ⌜ Inverted (now fun) (now blocks) ⌝ }
     requires { ⌜ 512 ≤ length (now memo) ⌝ }
     requires { ⌜ Begins (now types) (now fun) recording (fresh (now memo) (now forms) (now whats)) ⌝ }
     ensures { λ r. ⌜ Runs (was types) (was fun) recording memo forms whats out r ⌝ }
@@ -197,7 +197,7 @@ fn run(
 fn invert(fun: &[u32], blocks: &mut [u32])
     requires { ⌜ Formed (now fun) ⌝ }
     requires { ⌜ 256 ≤ length (now blocks) ⌝ }
-    ensures { λ r. ⌜ Ordered (was fun) (after blocks) ⌝ }
+    ensures { λ r. ⌜ Inverted (was fun) (after blocks) ⌝ }
 {
     let n = nblocks(fun);
     let mut b = 0;

@@ -11,7 +11,7 @@ use native.Mathlib.Omega.{arith}
 use lib.Arith.{digits-mod}
 use lib.Bits.{bitOr, bitXor, differ, or-step, xor-step, or-shr, xor-shr}
 use lib.Count.{trailingZeros, trailing-of-zero}
-use lib.Dec.{eqb, lit<}
+use lib.Dec.{eqb, lit<, eqb·zero-suc, eqb·suc-zero, eqb·suc-suc}
 use lib.ListN.{length, drop, replicate}
 use lib.Pow.{shl-exact}
 use lib.Seq.{getD-set-same, getD-set-other, drop-cons, drop-length}
@@ -33,20 +33,13 @@ unfolding bit
 bit-zero zero = refl
 bit-zero (suc i) = bit-zero i
 
--- the test of the numbers one more
-eqb-suc : (m n : ℕ) → eqb (suc m) (suc n) ≡ eqb m n
-eqb-suc m n = elim (ℕ-discrete m n) [
-  | yes e ↦ eq-eqb (suc m) (suc n) (ap suc e) ∙ sym (eq-eqb m n e)
-  | no d ↦ ne-eqb (suc m) (suc n) (λ e. d (omega arith)) ∙ sym (ne-eqb m n d)
-]
-
 -- of a power of two, the one
 bit-pow : (k i : ℕ) → bit (2 ^ k) i ≡ eqb k i
 unfolding bit
 bit-pow zero zero = refl
-bit-pow zero (suc i) = bit-zero i ∙ sym (ne-eqb 0 (suc i) (λ e. omega arith))
-bit-pow (suc k) zero = let e = pow-suc 2 k in let d : 2 ^ suc k % 2 ≡ 0 = omega arith in rw d (sym (ne-eqb (suc k) 0 (λ q. omega arith)))
-bit-pow (suc k) (suc i) = let e = pow-suc 2 k in let d : 2 ^ suc k / 2 ≡ 2 ^ k = omega arith in rw d (bit-pow k i ∙ sym (eqb-suc k i))
+bit-pow zero (suc i) = bit-zero i ∙ sym (eqb·zero-suc i)
+bit-pow (suc k) zero = let e = pow-suc 2 k in let d : 2 ^ suc k % 2 ≡ 0 = omega arith in rw d (sym (eqb·suc-zero k))
+bit-pow (suc k) (suc i) = let e = pow-suc 2 k in let d : 2 ^ suc k / 2 ≡ 2 ^ k = omega arith in rw d (bit-pow k i ∙ sym (eqb·suc-suc k i))
 
 -- what holds of digits holds of the lowest ones
 digits : (P : ℕ → ℕ → Type 0) (a b : ℕ) → P 0 0 → P 0 1 → P 1 0 → P 1 1 → P (a % 2) (b % 2)

@@ -3,8 +3,6 @@
 mod Bits
 -- each rank is some block's
 mod Ranks
--- the waiting block of lowest rank
-pub mod Lowest
 -- the set of waiting blocks, as the bits change
 pub mod Waiting
 -- every sequence of inserts and pops has the answers that the array gave: `same-answers`

@@ -13,13 +13,12 @@ use Rattle.model.specs.Rounds.{lowest, put}
 use Rattle.base.specs.Tests.{split, set-test}
 use Rattle.base.specs.Each.{Each, each-none, each-more}
 use Rattle.base.specs.Equal.{zero-word}
-use Rattle.solver.specs.Lowest.{lowest-some}
-use Rattle.queue.specs.Bits.{no-bits, put-in, take-out, first-rank}
-use Rattle.queue.specs.Waiting.{Ranking, Inverse, waiting, Four}
+use Rattle.solver.specs.Lowest.{lowest-some, lowest-same}
+use Rattle.queue.specs.Bits.{no-bits, Four, put-in, take-out, first-rank}
+use Rattle.queue.specs.Waiting.{Ranking, Inverse, waiting}
 use Rattle.queue.specs.Popped.{Inserts, answered, without, Popping}
 use Rattle.queue.specs.Sequences.{Step, insert, pop, Inside, flagged, cleared, array-answers, bit-rest, bit-answers}
 use Rattle.queue.specs.declared.Popped.{Popped}
-use Rattle.queue.proofs.Lowest.{lowest-same}
 use Rattle.queue.proofs.Waiting.{bit-pops, put-in-inserts, waiting-none}
 
 -- ONE STEP

@@ -16,15 +16,15 @@ use Rattle.model.specs.Function.{nblocks}
 use Rattle.model.specs.Rounds.{lowest, put}
 use Rattle.base.specs.Tests.{split, clash, and-right}
 use Rattle.base.specs.Function.{FunctionFacts}
-use Rattle.queue.specs.Bits.{no-bits, has, put-in, take-out, first-rank}
-use Rattle.queue.specs.Waiting.{Ranking, Inverse, waiting, Four}
+use Rattle.solver.specs.Lowest.{lowest-empty, lowest-is}
+use Rattle.queue.specs.Bits.{no-bits, Four, has, put-in, take-out, first-rank}
+use Rattle.queue.specs.Waiting.{Ranking, Inverse, waiting}
 use Rattle.queue.specs.Popped.{Inserts, answered, without, Popping}
 use Rattle.queue.specs.Sequences.{bit-popped, bit-rest}
 use Rattle.queue.specs.declared.Popped.{Popped}
 use Rattle.queue.specs.declared.Popped.the-variants.{Block, Empty}
 use Rattle.queue.proofs.Bits.{has-none, put-in-has, take-out-has, first-low}
 use Rattle.queue.proofs.Ranks.{onto}
-use Rattle.queue.proofs.Lowest.{lowest-empty, lowest-is}
 
 -- the ranks of a function that passes refusal 2
 pub facts-ranking : {fn : List ℕ} → FunctionFacts fn → Ranking (Function.rank fn) (nblocks fn)
@@ -135,9 +135,9 @@ module _ (blocks : List ℕ) (n : ℕ) (bits : List ℕ) (four : Four bits) wher
   popped-so e d = record { popping = rw (e, d) bits-popping; words = e; block = d }
 
   -- no block has the first rank
-  pub pops-none : n ≤ first-rank bits → Popped-so bits Empty
+  pub pops-nothing : n ≤ first-rank bits → Popped-so bits Empty
   unfolding bit-popped bit-rest
-  pops-none h = let e = le-ltb (first-rank bits) n h in popped-so (rw e refl) (rw e refl)
+  pops-nothing h = let e = le-ltb (first-rank bits) n h in popped-so (rw e refl) (rw e refl)
 
   -- one has it
   pub pops-first : (r m : ℕ) → r ≡ first-rank bits → r < n → m ≡ 2 ^ (r % 64) → Popped-so (set bits (r / 64) (bitXor (word bits (r / 64)) m)) (Block (word blocks r))

@@ -1,16 +1,21 @@
 -- A set of ranks as bits of four words: bit r % 64 of word r / 64 (document 02, F-5: "64-bit words, one bit for each rank").
+use mathlib.Core.Path.{_≡_}
 use mathlib.Core.Bool.{Bool, cond}
 use mathlib.Core.List.{List, [], _∷_}
 use Prim.Native.Nat.{ℕ, zero, suc, _+_, _/_, _%_, _^_}
 use lib.Bits.{bitOr, bitXor}
 use lib.Count.{trailingZeros}
 use lib.Dec.{eqb, ltb}
-use lib.ListN.{set, replicate}
+use lib.ListN.{length, set, replicate}
 use Rattle.model.specs.Words.{word}
 
 -- none (`WorkQueue::empty`)
 abbrev pub no-bits : List ℕ
 no-bits = replicate 4 0
+
+-- there are four words
+abbrev pub Four : List ℕ → Type 0
+Four bits = length bits ≡ 4
 
 -- is bit i of a word set?
 unfoldable pub bit : ℕ → ℕ → Bool

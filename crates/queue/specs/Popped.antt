@@ -18,12 +18,12 @@ Inserts bits r bits′ = (rank : ℕ → ℕ) (n b : ℕ) → Ranking rank n →
 
 -- POP
 
--- as the code answers it
+-- the block found, or none, as the code answers it
 abbrev pub answered : Option ℕ → Popped
 answered none = Empty
 answered (some b) = Block b
 
--- without it
+-- the set without that block
 abbrev pub without : (ℕ → Bool) → Option ℕ → ℕ → Bool
 without waits none = waits
 without waits (some b) = put waits b false

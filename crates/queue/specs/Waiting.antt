@@ -8,7 +8,7 @@ use lib.ListN.{length}
 use Rattle.model.specs.Words.{word}
 use Rattle.queue.specs.Bits.{has}
 
--- "Ranks are 0 to B − 1, each once" (document 01, refusal 2), of n blocks
+-- "Ranks are 0 to B − 1, each once" (document 01, refusal 2), of n blocks, at most 256
 pub record Ranking (rank : ℕ → ℕ) (n : ℕ) : Type 0 where
   pub few : n ≤ 256
   pub below : (b : ℕ) → b < n → rank b < n
@@ -22,7 +22,3 @@ pub record Inverse (rank : ℕ → ℕ) (n : ℕ) (blocks : List ℕ) : Type 0 w
 -- the set of waiting blocks, of n: those whose rank has its bit set
 unfoldable pub waiting : (ℕ → ℕ) → ℕ → List ℕ → ℕ → Bool
 waiting rank n bits b = ltb b n && has bits (rank b)
-
--- four words
-abbrev pub Four : List ℕ → Type 0
-Four bits = length bits ≡ 4

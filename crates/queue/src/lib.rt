@@ -5,8 +5,7 @@ ghost use Prim.Native.Nat.{_%_, _^_, _<_, _≤_};
 ghost use lib.Count.{trailingZeros};
 ghost use lib.ListN.{length};
 ghost use Rattle.moments.specs.Lent.{was, after};
-ghost use Rattle.queue.specs.Bits.{put-in, first-rank};
-ghost use Rattle.queue.specs.Waiting.{Four};
+ghost use Rattle.queue.specs.Bits.{Four, put-in, first-rank};
 ghost use Rattle.queue.specs.Popped.{Inserts, answered, Popping};
 ghost use Rattle.queue.specs.Sequences.{bit-popped, bit-rest};
 

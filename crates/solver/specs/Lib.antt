@@ -7,7 +7,7 @@
 pub mod Lists
 -- a loop by fuel: with a number that falls at each turn the fuel never runs out, and one turn unfolds by a law: run-round, run-ends
 pub mod Loop
--- the waiting number of lowest rank: lowest-none, lowest-some, lowest-rank
+-- the waiting number of lowest rank: lowest-none, lowest-some, lowest-rank, lowest-is, lowest-same
 pub mod Lowest
 -- statements marked at a point, and what stands at a point: at-mark, at-append
 pub mod Lines

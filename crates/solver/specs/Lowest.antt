@@ -1,5 +1,5 @@
 -- The waiting number of lowest rank.
-use mathlib.Core.Path.{_≡_, sym, subst}
+use mathlib.Core.Path.{_≡_, refl, sym, ap, _∙_, subst}
 use mathlib.Core.Bool.{Bool, true, false}
 use mathlib.Core.Option.{Option, none, some}
 use Prim.Native.Nat.{ℕ, zero, suc, _≤_, _<_}
@@ -7,7 +7,7 @@ use native.Mathlib.Omega.{arith}
 use lib.Dec.{ltb}
 use borrow.Author.Tests.{ltb-true, ltb-false}
 use Rattle.model.specs.Rounds.{better, lowest}
-use Rattle.base.specs.Tests.{split, clash}
+use Rattle.base.specs.Tests.{split, split-option, clash}
 use Rattle.base.specs.Below.{below-suc}
 
 module _ (rank : ℕ → ℕ) (waits : ℕ → Bool) where
@@ -67,3 +67,24 @@ module _ (rank : ℕ → ℕ) (waits : ℕ → Bool) where
       go : (o : Option ℕ) → Lowest n o → o ≡ some b → c < n → waits c ≡ true → rank b ≤ rank c
       go _ (no-one f) d = clash (cc)
       go _ (the-one {b = a} l v h) d = let q : a ≡ b = cc in rw (← q) (h c)
+
+  -- none waits: there is none
+  pub lowest-empty : (n : ℕ) → ((b : ℕ) → b < n → waits b ≡ false) → lowest rank waits n ≡ none
+  lowest-empty n f = split-option (lowest rank waits n)
+      (λ e. e)
+      (λ b e. let (l, w) = lowest-some n b e in clash (cc (f b l)))
+
+  -- b waits, and each that waits with no higher rank is b: it is b
+  pub lowest-is : (n b : ℕ) → b < n → waits b ≡ true → ((c : ℕ) → c < n → waits c ≡ true → rank c ≤ rank b → c ≡ b) → lowest rank waits n ≡ some b
+  lowest-is n b l w f = split-option (lowest rank waits n)
+      (λ e. clash (cc (lowest-none n e b l)))
+      (λ c e. let (k, v) = lowest-some n c e in e ∙ ap some (f c k v (lowest-rank n c b e l w)))
+
+-- sets that agree below n have one lowest
+pub lowest-same : (rank : ℕ → ℕ) (v w : ℕ → Bool) (n : ℕ) → ((b : ℕ) → b < n → v b ≡ w b) → lowest rank v n ≡ lowest rank w n
+unfolding lowest
+lowest-same rank v w zero f = refl
+lowest-same rank v w (suc n) f =
+    let k = lowest-same rank v w n (λ b l. f b (omega arith)) in
+    let e = f n (omega arith) in
+    split (v n) (λ d. cc) (λ d. cc)

@@ -150,10 +150,11 @@ pub fn rounds() -> Input {
     Input::new(&types, &function)
 }
 
-/// Many visits with little to do, while half of the blocks wait: a head leads to 204 join points that
-/// only stop, and 50 others wait until those are done. Each of the others changes one thing in a small
-/// state and goes to the head, so that the 204 wait again. The start leads to all blocks, itself too, and
-/// to the others twice, so that all are join points. The ranks are in no order of the blocks.
+/// Many visits with little to do, while some half of the blocks wait: a head leads to 204 join
+/// points that only stop, and 50 others wait until those are done. Each of the others changes one
+/// thing in a small state and goes to the head, so that the 204 wait again. The start leads to all
+/// blocks, itself too, and to the others twice, so that all are join points. The ranks are in no
+/// order of the blocks.
 pub fn waiting() -> Input {
     const POINTERS: usize = 5;
     const LEVELS: usize = 9;

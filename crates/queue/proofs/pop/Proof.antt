@@ -1,7 +1,7 @@
 -- `queue::pop` meets its contract: by the first rank, which is a block's or not. Assumes nothing.
 use borrow.Author.Needs.{needs}
 use native.Mathlib.Omega.{arith}
-use Rattle.queue.proofs.Waiting.{pops-none, pops-first}
+use Rattle.queue.proofs.Waiting.{pops-nothing, pops-first}
 use Rattle.queue.proofs.pop.Statement.{statement}
 use Rattle.queue.proofs.pop.Tie as tie
 
@@ -15,7 +15,7 @@ returns : tie.Need-returns
 returns c =
     let s : tie.Start = search in
     let f : tie.After-first-rank = search in
-    let P = pops-none (s .args .blocks .now) (s .args .n) (s .args .waits .now) (s .pre .0) (omega (arith, f .first-rank .ensures)) in
+    let P = pops-nothing (s .args .blocks .now) (s .args .n) (s .args .waits .now) (s .pre .0) (omega (arith, f .first-rank .ensures)) in
     (P .popping, (P .words, P .block))
 
 mul-waits : tie.Need-mul-waits

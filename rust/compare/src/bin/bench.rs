@@ -172,7 +172,7 @@ const KINDS: [Kind; 10] = [
     ("small", "200 random functions of 10 blocks, one after the other", || small(200)),
     ("large", "diamonds; states of 501 nodes", || vec![large()]),
     ("rounds", "over 5,000 visits; states of 202 nodes", || vec![rounds()]),
-    ("waiting", "10,506 visits, half of the blocks wait; states of 20 nodes", || vec![waiting()]),
+    ("waiting", "10,506 visits, some half of the blocks wait; 20 nodes", || vec![waiting()]),
     ("types", "4,096 types, one use", || vec![many_types()]),
     ("chain", "the deepest chain: a match in each block, 511 nodes", || vec![match_chain(256)]),
     ("items-2048", "uses in one block, in one round", || vec![items(2048)]),

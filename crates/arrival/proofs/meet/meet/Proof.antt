@@ -13,7 +13,7 @@ use Rattle.model.specs.Function.{local-types}
 use Rattle.base.specs.Tests.{split-option}
 use Rattle.blocks.specs.Points.{share-number}
 use Rattle.arrival.specs.Memory.{arrives}
-use Rattle.arrival.specs.Shares.{kept-in, Saved, Waits-for}
+use Rattle.arrival.specs.Shares.{kept-in, Saved, Bit-for}
 use Rattle.arrival.specs.Arrivals.{Shelved, Filled}
 use Rattle.arrival.specs.Visits.{exit}
 use Rattle.arrival.proofs.Memo.{parts-long, kept-length}
@@ -31,7 +31,7 @@ record Room (types fun memo waits forms whats : List ℕ) (c p : ℕ) : Type 0 w
   high : p ≤ 256
   forms-room : base p + 512 ≤ length forms
   whats-room : base p + 512 ≤ length whats
-  waiting : Waits-for fun c waits
+  bit : Bit-for fun c waits
   shelved : Shelved types fun memo (lent-of forms p) (lent-of whats p) c
 
 -- the beginning, from where the number is read
@@ -60,7 +60,7 @@ room w =
       high = omega (arith, N .1, q, few, points-few (s .args .fun .now));
       forms-room = omega (arith, I .0, q);
       whats-room = omega (arith, I .1, q);
-      waiting = (l, R .long .waits);
+      bit = (l, R .long .waits);
       shelved = record {
         stored = p .1 .1 .0 .memory .kept (s .args .j .block);
         is = lent-saved R l j few q;
@@ -132,7 +132,7 @@ reconcile-requires c κs =
     let w : tie.After-wide = search in
     let p = (start w) .pre in
     let R = room w in
-    (p .0, (stated (p .1 .1 .0), (filled w (t .if1 .taken), (R .waiting, (p .1 .1 .1 .0 .0, p .1 .1 .0 .spoken .counted)))))
+    (p .0, (stated (p .1 .1 .0), (filled w (t .if1 .taken), (R .bit, (p .1 .1 .1 .0 .0, p .1 .1 .0 .spoken .counted)))))
 
 same-length : tie.Need-same-length
 same-length c = search needs
@@ -191,7 +191,7 @@ arrive-requires c κs =
     let w : tie.After-wide = search in
     let p = (start w) .pre in
     let R = room w in
-    (p .0, (stated (p .1 .1 .0), (R .shelved, R .waiting)))
+    (p .0, (stated (p .1 .1 .0), (R .shelved, R .bit)))
 
 same-length-6 : tie.Need-same-length-6
 same-length-6 c = search needs
