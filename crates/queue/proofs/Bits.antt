@@ -1,7 +1,7 @@
 -- Bits of a word: of a disjunction, of a power of two, and the lowest that is set; and of the words of a set.
 use mathlib.Core.Path.{_≡_, refl, sym, ap, _∙_}
 use mathlib.Core.Logic.{_≢_}
-use mathlib.Core.Bool.{true, false, cond, not, _||_}
+use mathlib.Core.Bool.{Bool, true, false, cond, not, _||_}
 use mathlib.Core.List.{List, [], _∷_}
 use Prim.Native.Nat.{ℕ, zero, suc, _+_, _*_, _-_, _/_, _%_, _^_, _≤_, _<_, max}
 use native.Mathlib.Nat.{pow-suc, one-mul}
@@ -64,13 +64,14 @@ unfolding bit
 bit-xor a b zero = rw (xor-low a b) (digits (λ x y. eqb (differ x y) 1 ≡ cond (eqb y 1) (not (eqb x 1)) (eqb x 1)) a b refl refl refl refl)
 bit-xor a b (suc i) = ap (λ (x : ℕ). bit x i) (xor-shr a b 1) ∙ bit-xor (a / 2) (b / 2) i
 
--- the trailing zeros lead to the lowest bit that is set, if one of k is
-pub record Low (k w t : ℕ) : Type 0 where
+-- t is the least number below k that passes p, or k if none does
+pub record Least (p : ℕ → Bool) (k t : ℕ) : Type 0 where
   pub most : t ≤ k
-  pub under : (i : ℕ) → i < t → bit w i ≡ false
-  pub there : t < k → bit w t ≡ true
+  pub under : (i : ℕ) → i < t → p i ≡ false
+  pub there : t < k → p t ≡ true
 
-pub trailing-low : (k w : ℕ) → Low k w (trailingZeros k w)
+-- the trailing zeros lead to the lowest bit that is set, if one of k is
+trailing-low : (k w : ℕ) → Least (bit w) k (trailingZeros k w)
 unfolding bit trailingZeros
 trailing-low zero w = record { most = omega arith; under = λ i l. absurd (omega arith); there = λ l. absurd (omega arith) }
 trailing-low (suc k) w =
@@ -83,7 +84,7 @@ trailing-low (suc k) w =
     }))
     (λ e. rw e (record { most = omega arith; under = λ i l. absurd (omega arith); there = λ l. rw e refl }))
   where
-    lower : w % 2 ≡ 0 → Low k (w / 2) (trailingZeros k (w / 2)) → (i : ℕ) → i < suc (trailingZeros k (w / 2)) → bit w i ≡ false
+    lower : w % 2 ≡ 0 → Least (bit (w / 2)) k (trailingZeros k (w / 2)) → (i : ℕ) → i < suc (trailingZeros k (w / 2)) → bit w i ≡ false
     lower e L zero l = rw e refl
     lower e L (suc i) l = L .under i (omega arith)
 
@@ -132,12 +133,6 @@ take-out-has bits r h t s = elim (ℕ-discrete (s / 64) (r / 64)) [
   | no e ↦ rw (getD-set-other bits (r / 64) (s / 64) (bitXor (word bits (r / 64)) (2 ^ (r % 64))) 0 e, ne-eqb r s (λ d. e (omega arith))) refl
 ]
 
--- the first is the lowest that is in
-pub record First (bits : List ℕ) (r : ℕ) : Type 0 where
-  pub most : r ≤ 64 * length bits
-  pub under : (s : ℕ) → s < r → has bits s ≡ false
-  pub there : r < 64 * length bits → has bits r ≡ true
-
 -- a number that lies in a word behind the first
 has-behind : (w : ℕ) (ws : List ℕ) (s : ℕ) → 64 ≤ s → has (w ∷ ws) s ≡ has ws (s - 64)
 unfolding has
@@ -154,7 +149,8 @@ has-here w ws s h =
     let d : s % 64 ≡ s = omega arith in
     rw (e, d) refl
 
-pub first-low : (bits : List ℕ) → First bits (first-rank bits)
+-- the first rank is the lowest that is in
+pub first-low : (bits : List ℕ) → Least (has bits) (64 * length bits) (first-rank bits)
 unfolding first-rank
 first-low [] = record { most = omega arith; under = λ s l. absurd (omega arith); there = λ l. absurd (omega arith) }
 first-low (w ∷ ws) =
