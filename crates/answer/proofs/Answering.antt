@@ -9,6 +9,7 @@ use lib.ListN.{length, take}
 use borrow.Author.Tests.{eqb-true, ltb-true, leb-true, le-leb, lt-leb}
 use Rattle.model.specs.Words.{word}
 use Rattle.model.specs.Answer.{refused, done}
+use Rattle.model.specs.Types.{types-length}
 use Rattle.model.specs.Tree.{Forest}
 use Rattle.model.specs.Place.{At}
 use Rattle.model.specs.Block.{entry-point}
@@ -18,7 +19,7 @@ use Rattle.model.specs.Record.{entries, statement-record, writable, lent, numbe
 use Rattle.model.specs.Whole.{accepted, denied, result, found, whole, with-numbers, found-told, told-of, whole-told}
 use Rattle.model.specs.Told.{number-ok}
 use Rattle.model.specs.Function.{function-length}
-use Rattle.model.specs.Ghosts.{types-length, function-words, analysed, answer-text, lines-text, fresh, close, printed, ghosts, ghosts-store, ghosts-buffer}
+use Rattle.model.specs.Ghosts.{function-words, analysed, answer-text, lines-text, fresh, close, printed, ghosts, ghosts-store, ghosts-buffer}
 use Rattle.base.specs.Tests.{split, and-left}
 use Rattle.base.specs.Answer.{split-answer}
 use Rattle.model.specs.Promised.{Answered}

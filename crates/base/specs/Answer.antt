@@ -89,6 +89,10 @@ pub then-done : {A B : Type 0} (a : Answer A) {f : A → Answer B} {b : B} → a
 then-done (refused r) e = clash (cc)
 then-done (done x) e = (x, refl, e)
 
+-- an answer's value, mapped
+abbrev pub answer-map : {A B : Type 0} → (A → B) → Answer A → Answer B
+answer-map h a = a >>= λ x. done (h x)
+
 -- WHAT IS REFUSED
 
 -- the number of the refusal, if it is one

@@ -47,6 +47,12 @@ module _ (p : ℕ → Bool) where
   all-fails-at zero e = absurd (true≢false e)
   all-fails-at (suc n) e = split (all p n) (λ d. (n, omega arith, cc)) (λ d. let r = all-fails-at n d in (r .0, omega arith, r .2))
 
+-- two tests that agree below n
+pub all-same : (p q : ℕ → Bool) (n : ℕ) → ((i : ℕ) → i < n → p i ≡ q i) → all p n ≡ all q n
+unfolding all
+all-same p q zero h = refl
+all-same p q (suc n) h = cc (all-same p q n (λ i l. h i (omega arith)), h n (omega arith))
+
 -- SUM
 
 module _ (f : ℕ → ℕ) where

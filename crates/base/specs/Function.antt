@@ -1,4 +1,4 @@
--- What a function record that passes is known to say of its sizes, starts and ranks, and of each item.
+-- What a function record that passes is known to say of its sizes, starts and ranks, and of each item; its local types pass.
 use mathlib.Core.Path.{_≡_, subst}
 use mathlib.Core.Logic.{_≢_, ⊎-elim}
 use mathlib.Core.Bool.{Bool, true, not, _&&_, _||_, true≢false}
@@ -11,6 +11,7 @@ use lib.ListN.{length, drop, length-drop}
 use lib.Seq.{length-take-le}
 use borrow.Author.Tests.{ltb-true, ltb-false, lt-ltb, le-ltb, leb-true, eqb-true, eqb-false, not-true}
 use Rattle.model.specs.Words.{all}
+use Rattle.model.specs.State.{locals-ok}
 use Rattle.model.specs.Function.{nlocals, nargs, nblocks, nitems, local-types, start, rank, op, arg, stop, may-follow, after, arg-ok, function-sizes, starts-ok, ranks-ok, items-from, items-ok, function-ok}
 use Rattle.base.specs.Tests.{split, and-left, and-right}
 use Rattle.base.specs.Below.{all-at}
@@ -180,3 +181,8 @@ module _ {fn : List ℕ} (h : FunctionFacts fn) where
       (λ e. subst (λ (k : ℕ). stop fn b ≤ start fn (suc k)) e (omega (arith, stop-next b (omega arith))))
       (λ l. omega (arith, stop-before b c l (omega arith), h .starts c (omega arith), stop-next c q))
       (eq-or-lt-of-le (le-of-suc-le-suc p))
+
+-- the local types pass
+pub locals-pass : (Γ fn : List ℕ) → function-ok Γ fn ≡ true → locals-ok Γ (local-types fn) ≡ true
+unfolding function-ok
+locals-pass Γ fn e = search (and-left, and-right)

@@ -12,6 +12,8 @@ pub mod Only
 pub mod Each
 -- equal words in a row
 pub mod Equal
+-- words of a list: mapped, stored
+pub mod Words
 -- what is told beside a statement doesn't matter
 pub mod Forgotten
 -- tests, sums and counts over the numbers below n
@@ -26,5 +28,7 @@ pub mod Kinds
 pub mod Parts
 -- what a type record that passes refusal 1 says: `types-typed`; and local types that pass: `locals-typed`
 pub mod Typed
+-- what a type must say to pass: `says-passes`
+pub mod Says
 -- what a function record that passes refusal 2 says: `function-facts`
 pub mod Function

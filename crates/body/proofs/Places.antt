@@ -9,11 +9,10 @@ use lib.ListN.{length}
 use Rattle.model.specs.Tree.{Forest}
 use Rattle.model.specs.State.{locals-ok}
 use Rattle.model.specs.Place.{used-ok}
-use Rattle.model.specs.Function.{nlocals, nitems, local-types, function-ok}
+use Rattle.model.specs.Function.{nlocals, nitems, local-types}
 use Rattle.model.specs.Block.{root-before, spot-before, uses-place}
 use Rattle.model.specs.Calls.{spot-of}
-use Rattle.base.specs.Tests.{and-left, and-right}
-use Rattle.base.specs.Function.{function-facts, length-local-types}
+use Rattle.base.specs.Function.{function-facts, length-local-types, locals-pass}
 use Rattle.records.specs.Here.{Holds}
 use Rattle.graph.specs.Used.{place-used}
 use Rattle.mir.specs.Parts.{ops-part, args-part}
@@ -22,11 +21,6 @@ use Rattle.state.specs.declared.nodes.State.{State}
 use Rattle.blocks.proofs.Spots.{used-in, used-read}
 use Rattle.env.specs.Given.{Given}
 use Rattle.state.specs.Given.{Accepted, Stated}
-
--- the local types pass
-pub locals-pass : (Γ fn : List ℕ) → function-ok Γ fn ≡ true → locals-ok Γ (local-types fn) ≡ true
-unfolding function-ok
-locals-pass Γ fn e = search (and-left, and-right)
 
 module _ {Γ os fn : List ℕ} (A : Accepted Γ os fn) {read : ℕ} (l : read < nitems fn) (u : uses-place fn read ≡ true) {r : ℕ} (e : r ≡ root-before fn read) where
   -- its items

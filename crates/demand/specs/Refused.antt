@@ -9,7 +9,7 @@ use lib.ListN.{length, take}
 use lib.Dec.{leb}
 use borrow.Author.Tests.{lt-ltb}
 use Rattle.model.specs.Answer.{Answer, refused, done}
-use Rattle.model.specs.Types.{types-ok}
+use Rattle.model.specs.Types.{types-length, types-ok}
 use Rattle.model.specs.Tree.{Forest, leaves}
 use Rattle.model.specs.State.{most}
 use Rattle.model.specs.Place.{Spot, At, used-ok}
@@ -21,7 +21,7 @@ use Rattle.model.specs.Passes.{Found}
 use Rattle.model.specs.Body.{enter-uses, use-at, pass-stations, Left, variants, variant-of, choice, open-variant, match-targets, match-exits, exits-of, body, frame}
 use Rattle.model.specs.Record.{entries, writable}
 use Rattle.model.specs.Whole.{passes, ghost-statements, with-buffer, accepted, denied, result, shorter, found, whole}
-use Rattle.model.specs.Ghosts.{fresh, close, scan, backwards, words-of, types-length, function-words, ghosts-store, ghosts-buffer, analysed, answer-text, printed, ghosts}
+use Rattle.model.specs.Ghosts.{fresh, close, scan, backwards, words-of, function-words, ghosts-store, ghosts-buffer, analysed, answer-text, printed, ghosts}
 use Rattle.model.specs.Promised.{One-of, whole-numbers, function-numbers, Answered, in-lines, in-a-refusal}
 use Rattle.base.specs.Tests.{split, split-option, clash}
 use Rattle.base.specs.Each.{Each, each-none, each-more}

@@ -2,12 +2,11 @@
 -- are taken out. And its demands: a record that is given is replayed, its numbers say where openings began, a refusal has one of its numbers.
 use mathlib.Core.Path.{_≡_, refl, sym, ap, _∙_}
 use mathlib.Core.Bool.{true, false}
-use mathlib.Core.List.{List, [], _++_, map}
-use Prim.Native.Nat.{ℕ, _+_, _-_, _≤_}
-use native.Mathlib.Nat.{zero-add}
+use mathlib.Core.List.{List, [], map}
+use Prim.Native.Nat.{ℕ, _-_, _≤_}
 use native.Mathlib.Omega.{arith}
-use lib.ListN.{length, drop, replicate, length-replicate, length-map}
-use lib.Seq.{sets, sets-eq, paste-zero}
+use lib.ListN.{length, replicate, length-map}
+use lib.Seq.{sets, paste-zero}
 use lib.Dec.{ltb}
 use borrow.Author.Tests.{ltb-true, ltb-false, le-leb, lt-leb}
 use Rattle.model.specs.Words.{word}
@@ -25,7 +24,8 @@ use Rattle.model.specs.Told.{number-ok, Numbered}
 use Rattle.model.specs.Promised.{One-of, whole-numbers}
 use Rattle.base.specs.Tests.{clash}
 use Rattle.base.specs.Answer.{split-answer}
-use Rattle.base.specs.Equal.{drop-replicate, zero-word}
+use Rattle.base.specs.Equal.{zero-word}
+use Rattle.base.specs.Words.{sets-lent}
 use Rattle.records.specs.Entries.{entries-of}
 use Rattle.demand.specs.Demand.{demand-3}
 use Rattle.demand.specs.Refused.{whole-refuses}
@@ -45,14 +45,6 @@ zeros-unmarked n = rw (zero-word n 1) (sym (paste-zero (replicate n 0) 2 (map un
 zeros-told : (n : ℕ) → told-in (entries-of (replicate n 0)) ≡ []
 unfolding entries-of told-in pairs
 zeros-told n = rw (zero-word n 1) refl
-
--- NUMBERS, stored from the first entry of an array of zeros on
-told-lent : (n : ℕ) (ns : List ℕ) → length ns ≤ n → sets (replicate n 0) 0 ns ≡ lent n ns
-unfolding lent
-told-lent n ns l =
-    sets-eq ns (replicate n 0) 0 (omega (arith, length-replicate {A = ℕ} n 0))
-    ∙ ap (λ (k : ℕ). ns ++ drop k (replicate n 0)) (zero-add (length ns))
-    ∙ ap (λ (r : List ℕ). ns ++ r) (drop-replicate (length ns) n 0)
 
 -- THE MARKS
 module _ {Γ fn fs ws out fs′ ws′ out₂ : List ℕ} {r : Ghosts} (M : Marked Γ fn fs ws out fs′ ws′ out₂ r) where
@@ -119,7 +111,7 @@ module _ {Γ fn fs ws out fs′ ws′ out₂ : List ℕ} {r : Ghosts} (M : Marke
         let l : ltb (length told) (length (f .lines)) ≡ false = cc in
         let few : length (numbers (f .lines)) ≤ length told = rw length-map (ltb-false (length told) (length (f .lines)) l) in
         ap (λ (l : List ℕ). sets (replicate (length told) 0) 0 (told-in (entries-of l))) (some-left e .1)
-        ∙ ap (sets (replicate (length told) 0) 0) (lent-told (entry-point fn) (length out) (f .lines)) ∙ told-lent (length told) (numbers (f .lines)) few ∙ rw e refl)
+        ∙ ap (sets (replicate (length told) 0) 0) (lent-told (entry-point fn) (length out) (f .lines)) ∙ sets-lent (length told) (numbers (f .lines)) few ∙ rw e refl)
 
     pub told-beside : {out′ told₂ told′ : List ℕ} → over (length told) r ≡ false → out′ ≡ without-marks out₂ → told₂ ≡ replicate (length told) 0
         → told′ ≡ sets told₂ 0 (told-in (entries-of out₂)) → Whole-told Γ fn fs ws out told fs′ ws′ out′ told′ r

@@ -9,6 +9,7 @@ use Rattle.model.specs.Frame
 use Rattle.model.specs.Function
 use Rattle.model.specs.Ghosts
 use Rattle.model.specs.Measure
+use Rattle.model.specs.Merge
 use Rattle.model.specs.Passes
 use Rattle.model.specs.Place
 use Rattle.model.specs.Record
@@ -30,7 +31,7 @@ unfolding
     Types.kind Types.count Types.offset Types.part Types.pointer Types.fielded Types.shut Types.sticky Types.below Types.form
     Types.parts Types.owner Types.first Types.kids Types.casts Types.discriminant Types.type-sizes Types.counts-add
     Types.field-ok Types.fields-ok Types.pointee-ok Types.variant-ok Types.variants-ok Types.type-ok Types.all-types-ok
-    Types.types-ok
+    Types.types-ok Types.types-length
     Tree.size Tree.leaves Tree.settle Tree.join Tree.meet Tree.flags
     Source.filled Source.stayed Source.met Source.first Source.second Source.modified
     State.codes State.padded State.encode State.read-each State.opens State.read-node State.read-tree State.pairs State.shaped
@@ -58,6 +59,8 @@ unfolding
     Record.writable Record.lent Record.numbers Record.gather-one Record.gather Record.recorded
     Whole.passes Whole.ghost-statements Whole.with-buffer Whole.share Whole.joined Whole.shares Whole.accepted Whole.denied
     Whole.result Whole.shorter Whole.found Whole.whole Whole.with-numbers Whole.found-told Whole.told-of Whole.whole-told
+    Merge.kinds Merge.counts Merge.all-parts Merge.moved-part Merge.moved-parts Merge.moved-below Merge.heads Merge.merged
+    Merge.sums-ok Merge.merge-types Merge.merged-lent Merge.record-in Merge.moved-function
     Crate.records Crate.spare Crate.stopped-at Crate.calls Crate.from-first Crate.crate-statements
     Calls.typed Calls.taken Calls.elems-of Calls.spot-of Calls.placed Calls.recorded-verb Calls.recorded-as
     Calls.call-projection Calls.call-downcast Calls.statement-ok Calls.statement-at Calls.call-carry Calls.call-join
@@ -68,7 +71,7 @@ unfolding
     Assign.statements-of Assign.statement-items Assign.item-record Assign.items-lent
     Replay.at-point Replay.find Replay.look Replay.stand Replay.through Replay.opens-at Replay.cast-maybe Replay.own Replay.script
     Replay.play Replay.replay
-    Ghosts.close Ghosts.digit Ghosts.scan-byte Ghosts.scan Ghosts.words-of Ghosts.types-length
+    Ghosts.close Ghosts.digit Ghosts.scan-byte Ghosts.scan Ghosts.words-of
     Ghosts.function-words Ghosts.analysed Ghosts.decimal Ghosts.elem-text Ghosts.place-text Ghosts.point-text Ghosts.verb-text
     Ghosts.told-text Ghosts.line-text Ghosts.lines-text Ghosts.answer-text Ghosts.printed Ghosts.ghosts
     Build.state-of

@@ -17,6 +17,8 @@ mod Limits
 mod States
 -- the numbers beside a statement record
 mod Numbered
+-- two type records
+mod Merges
 -- lists of MIR statements
 mod Assigns
 -- crates in one call

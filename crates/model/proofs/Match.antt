@@ -10,11 +10,11 @@ use Rattle.model.proofs.Build.{bytes, opaque, enum, variant, types-of, 
 use Rattle.model.proofs.Computed.{computed}
 
 -- 0 opaque, 1 variant value 5 (0), 2 variant value 7 (0), 3 enum(1,2)
-abbrev types : List ℕ
+abbrev pub types : List ℕ
 types = types-of (opaque ∷ variant 5 (0 ∷ []) ∷ variant 7 (0 ∷ []) ∷ enum (1 ∷ 2 ∷ []) ∷ [])
 
 -- _1 is the enum, _2 its discriminant
-abbrev function : List ℕ
+abbrev pub function : List ℕ
 function = function-of (0 ∷ 3 ∷ 0 ∷ []) (
     (root 1 ∷ read ∷ root 2 ∷ note ∷ root 2 ∷ switch ∷ arm 7 ∷ target 1 ∷ target 2 ∷ [])
     ∷ (root 1 ∷ downcast 1 ∷ field 0 ∷ used ∷ target 3 ∷ [])

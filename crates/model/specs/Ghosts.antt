@@ -5,8 +5,8 @@ use mathlib.Core.List.{List, [], _∷_, _++_}
 use Prim.Native.Nat.{ℕ, zero, suc, _+_, _-_, _*_, _/_, _%_, _^_}
 use lib.ListN.{length, take, drop}
 use lib.Dec.{eqb, ltb, leb}
-use Rattle.model.specs.Words.{word}
 use Rattle.model.specs.Answer.{Answer, refused, done, require}
+use Rattle.model.specs.Types.{types-length}
 use Rattle.model.specs.Tree.{Forest}
 use Rattle.model.specs.Place.{Elem, deref, field, downcast, index, Place, Verb, Fold, Unfold, dash, At}
 use Rattle.model.specs.Function.{function-length}
@@ -62,10 +62,6 @@ backwards (x ∷ l) r = backwards l (x ∷ r)
 -- the words of a text; 2 "before all else" for too many words, a number from 2^32 or other text
 unfoldable pub words-of : List ℕ → Answer (List ℕ)
 words-of bytes = let s = close (scan bytes fresh) in require (s .fine) 2 λ _. done (backwards (s .words) [])
-
--- how long the type record is by its sizes as written
-unfoldable pub types-length : List ℕ → ℕ
-types-length ws = 2 + 2 * word ws 0 + word ws 1
 
 -- "4,096 words, 16 join points, 1,024 entries"
 abbrev pub ghosts-store : ℕ

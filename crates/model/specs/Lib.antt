@@ -33,6 +33,8 @@ pub mod Whole
 pub mod Crate
 -- the calls on states for users
 pub mod Calls
+-- two type records become one
+pub mod Merge
 -- MIR statements as they are, and the items that they give
 pub mod Assign
 -- the replay; what the numbers beside a statement record say

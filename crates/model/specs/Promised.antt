@@ -62,6 +62,10 @@ folds-numbers = 1 ∷ 3 ∷ 10 ∷ []
 abbrev pub statement-numbers : List ℕ
 statement-numbers = 2 ∷ 10 ∷ 11 ∷ []
 
+-- of two type records (document 02, F-6)
+abbrev pub merge-numbers : List ℕ
+merge-numbers = 1 ∷ 10 ∷ 12 ∷ []
+
 -- of a whole crate (document 02, F-3), by the function's position: 0, its count, its types, words after the last record; else the
 -- function's own
 abbrev pub crate-numbers : ℕ → List ℕ

@@ -3,7 +3,7 @@
 -- 9 closure, 10 coroutine.
 use mathlib.Core.Bool.{Bool, cond, not, _&&_, _||_}
 use mathlib.Core.List.{List, [], _∷_}
-use Prim.Native.Nat.{ℕ, zero, suc, _+_, _-_}
+use Prim.Native.Nat.{ℕ, zero, suc, _+_, _*_, _-_}
 use lib.ListN.{length, getD}
 use lib.Dec.{eqb, ltb, leb}
 use Rattle.model.specs.Words.{word, all, sum}
@@ -29,6 +29,10 @@ offset Γ t = sum (count Γ) t
 
 unfoldable pub part : List ℕ → ℕ → ℕ → ℕ
 part Γ t j = word Γ (2 + ntypes Γ + ntypes Γ + offset Γ t + j)
+
+-- how long the record is by its sizes as written
+unfoldable pub types-length : List ℕ → ℕ
+types-length ws = 2 + 2 * word ws 0 + word ws 1
 
 -- KINDS
 

@@ -5,7 +5,7 @@ use Prim.Native.Nat.{ℕ, zero, suc, _+_, _<_, _≤_}
 use native.Mathlib.Numerals.{add-one}
 use native.Mathlib.Omega.{arith}
 use lib.ListN.{length, getD, take, drop, length-take, length-drop, length-append}
-use lib.Seq.{drop-append-le, drop-append-add, take-append-le, drop-cons, take-add, take-take, take-at, drop-at, drop-drop}
+use lib.Seq.{drop-append-le, drop-append-add, take-append-le, drop-cons, take-add, take-take, take-at, take-suc, drop-at, drop-drop, getD-drop, length-take-le}
 
 -- n words from i on
 abbrev pub window : {A : Type 0} → List A → ℕ → ℕ → List A
@@ -23,6 +23,17 @@ module _ {A : Type 0} (l : List A) (i : ℕ) where
   -- one window behind another
   pub window-append : (m n : ℕ) → window l i (m + n) ≡ window l i m ++ window l (i + m) n
   window-append m n = take-add m n (drop i l) ∙ ap (λ (k : List A). window l i m ++ take n k) (drop-drop m i l)
+
+  -- one word more
+  pub window-snoc : (d : A) (n : ℕ) → i + n < length l → window l i (n + 1) ≡ window l i n ++ (getD l (i + n) d ∷ [])
+  window-snoc d n h =
+      ap (λ (k : ℕ). take k (drop i l)) (add-one n)
+      ∙ take-suc (drop i l) n d (omega (arith, length-drop i l))
+      ∙ ap (λ (x : A). window l i n ++ (x ∷ [])) (getD-drop i l n d)
+
+  -- as long as it says
+  pub window-long : (n : ℕ) → i + n ≤ length l → length (window l i n) ≡ n
+  window-long n h = length-take-le n (drop i l) (omega (arith, length-drop i l))
 
   -- a window that is known word by word
   pub record Consed (d : A) (n : ℕ) (x : A) (xs : List A) : Type 0 where

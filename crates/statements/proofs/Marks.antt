@@ -15,6 +15,7 @@ use Rattle.model.specs.Frame.{Line}
 use Rattle.model.specs.Record.{Entry, elem-entry, verb-entry, point-entry, line-entries, entries, statement-record, lent, numbers}
 use Rattle.base.specs.Tests.{split}
 use Rattle.base.specs.Each.{Each, each-none, each-more}
+use Rattle.base.specs.Words.{sets-append}
 use Rattle.records.specs.Entries.{Whole, entries-of, record-of, length-record-of, length-entries-of, entries-next, entries-written}
 use Rattle.statements.specs.Marked.{mark-of, number-of, marked-line, marked, marked-record, Held, told-in, unmarked, without-marks}
 
@@ -33,11 +34,6 @@ unfolding without-marks
 short-same ws l = rw (short-none ws l) (paste-zero ws 2 (map unmarked (entries-of ws)))
 
 -- AN ENTRY AT A TIME
-
--- stores one after the other
-pub sets-append : (l : List ℕ) (i : ℕ) (a b : List ℕ) → sets l i (a ++ b) ≡ sets (sets l i a) (i + length a) b
-sets-append l i [] b = ap (λ (k : ℕ). sets l k b) (omega arith)
-sets-append l i (x ∷ a) b = sets-append (set l i x) (suc i) a b ∙ ap (λ (k : ℕ). sets (sets (set l i x) (suc i) a) k b) (omega arith)
 
 -- one entry: a verb, or another
 pub verb-tells : (op m : ℕ) → 15 ≤ op → told-in ((op, m) ∷ []) ≡ number-of m ∷ []

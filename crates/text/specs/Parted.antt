@@ -3,7 +3,8 @@ use mathlib.Core.Path.{_≡_}
 use mathlib.Core.List.{List}
 use Prim.Native.Nat.{ℕ, _≤_}
 use lib.ListN.{length, take, drop}
-use Rattle.model.specs.Ghosts.{types-length, function-words}
+use Rattle.model.specs.Types.{types-length}
+use Rattle.model.specs.Ghosts.{function-words}
 
 -- r parts the words as model does
 pub record Parted (ws : List ℕ) (r : ℕ) : Type 0 where

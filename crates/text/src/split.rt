@@ -1,6 +1,6 @@
 // The two records in one list of words, by their sizes as written.
 ghost use mathlib.Core.Path.{_≡_};
-ghost use Rattle.model.specs.Ghosts.{types-length};
+ghost use Rattle.model.specs.Types.{types-length};
 ghost use Rattle.text.specs.Parted.{Parted};
 use mir::split::word;
 

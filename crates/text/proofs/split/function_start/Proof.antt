@@ -6,7 +6,8 @@ use Prim.Native.Nat.{ℕ, _≤_, _<_}
 use native.Mathlib.Omega.{arith}
 use lib.ListN.{length, take, drop, drop-of-length-le}
 use lib.Seq.{take-length, take-all, drop-length}
-use Rattle.model.specs.Ghosts.{types-length, function-words}
+use Rattle.model.specs.Types.{types-length}
+use Rattle.model.specs.Ghosts.{function-words}
 use Rattle.text.specs.Parted.{Parted}
 use Rattle.text.proofs.split.function_start.Statement.{statement}
 use Rattle.text.proofs.split.function_start.Tie as tie

@@ -1,7 +1,7 @@
 -- `text::split::types_length` meets its contract. Assumes nothing.
 use borrow.Author.Needs.{needs}
 use native.Mathlib.Omega.{arith}
-use Rattle.model.specs.Ghosts.{types-length}
+use Rattle.model.specs.Types.{types-length}
 use Rattle.text.proofs.split.types_length.Statement.{statement}
 use Rattle.text.proofs.split.types_length.Tie as tie
 
