@@ -52,3 +52,8 @@ pub mod Whole
 pub mod Refusals
 -- the same visit in the style of code: visit-agree, opening-agree
 pub mod Direct
+-- MAPS BETWEEN FRAMES
+-- a map of states that goes along with two frames leads a visit and the first pass of the one to those of the other: `Along`, infer-along
+pub mod Along
+-- and the second pass and the whole: elaborate-along, analyse-along, carries-along
+pub mod AlongWhole
