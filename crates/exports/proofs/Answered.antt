@@ -14,7 +14,8 @@ use Rattle.model.specs.Rounds.{elem}
 use Rattle.model.specs.Crate.{records, Verdict, crate-statements}
 use Rattle.model.specs.Replay.{Replayed, Replayed-each}
 use Rattle.model.specs.Told.{number-ok, Numbered}
-use Rattle.model.specs.Promised.{One-of, whole-numbers, function-numbers, statement-numbers, crate-numbers, Refused-at}
+use Rattle.model.specs.Merge.{merge-types, record-in, Passes, Links}
+use Rattle.model.specs.Promised.{One-of, whole-numbers, function-numbers, statement-numbers, merge-numbers, crate-numbers, Refused-at}
 use Rattle.model.specs.Assign.{statement-items}
 use Rattle.base.specs.Tests.{split, clash, and-left, and-right}
 use Rattle.base.specs.Answer.{split-answer}
@@ -29,7 +30,10 @@ use Rattle.whole_crate.proofs.Answering.{verdict-done, verdict-stopped}
 use Rattle.assign.specs.Answers.{Gives, Numbered as Items-numbered}
 use Rattle.assign.specs.declared.Items.{Items}
 use Rattle.assign.specs.declared.Items.the-variants.{Done as Given, Refused as Barred}
-use Rattle.exports.specs.Answers.{Exported, Exported-items, position-number, Exported-crate, Refusal-in}
+use Rattle.merge.specs.Answers.{Gives as Merges, Numbered as Merge-numbered}
+use Rattle.merge.specs.declared.Merged.{Merged}
+use Rattle.merge.specs.declared.Merged.the-variants.{Done as Joined, Refused as Unmerged}
+use Rattle.exports.specs.Answers.{Exported, Exported-items, Exported-merged, position-number, Exported-crate, Refusal-in}
 
 -- a refusal's number, among one number more
 one-more : (ns : List ℕ) (n : ℕ) → One-of ns n → One-of (0 ∷ ns) n
@@ -85,6 +89,31 @@ module _ {ws : List ℕ} {n : ℕ} {out′ : List ℕ} {r : Items} (G : Gives ws
   items-given e = split-answer (statement-items ws n)
       (λ k p. let q = G .answer in clash (cc))
       (λ es p. (record { answer = cc; left = G .left }, refl))
+
+-- TWO TYPE RECORDS
+
+-- what is promised of an answer
+abbrev Promises-merged : (Γ Δ : List ℕ) (n : ℕ) (out′ : List ℕ) → ℕ → Type 0
+Promises-merged Γ Δ n out′ m = Exported-merged Γ Δ n out′ m
+    × (One-of (0 ∷ merge-numbers) m × ((m ≡ 0 → Passes out′) × (m ≡ 0 → Links Γ Δ (record-in out′))))
+
+module _ {Γ Δ : List ℕ} {n : ℕ} {out′ : List ℕ} {r : Merged} (G : Merges Γ Δ n out′ r) where
+  pub merge-refused : {m : ℕ} → r ≡ Unmerged m → Merge-numbered r → Promises-merged Γ Δ n out′ m
+  unfolding elem
+  merge-refused {m} e N =
+      let some = one-apart merge-numbers 0 m (N m e) refl in
+      split-answer (merge-types Γ Δ n)
+      (λ k p. let q = G .answer in (
+        record { answer = cc; left = G .left },
+        (one-more merge-numbers m (N m e), (λ z. absurd (some z), λ z. absurd (some z))),
+      ))
+      (λ l p. let q = G .answer in clash (cc))
+
+  pub merge-done : {k : ℕ} → r ≡ Joined k → Passes out′ → Links Γ Δ (record-in out′) → Promises-merged Γ Δ n out′ 0
+  unfolding elem
+  merge-done e P L = split-answer (merge-types Γ Δ n)
+      (λ k p. let q = G .answer in clash (cc))
+      (λ l p. (record { answer = cc; left = G .left }, (refl, (λ z. P, λ z. L))))
 
 -- A WHOLE CRATE
 

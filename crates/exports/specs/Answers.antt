@@ -8,6 +8,7 @@ use Rattle.model.specs.Answer.{Answer, refused, done}
 use Rattle.model.specs.Whole.{whole-told}
 use Rattle.model.specs.Crate.{Verdict, passed, stopped, crate-statements}
 use Rattle.model.specs.Promised.{Refused-at}
+use Rattle.model.specs.Merge.{merge-types, merged-lent}
 use Rattle.model.specs.Assign.{statement-items, items-lent}
 
 -- the refusal, or 0: no refusal has that number
@@ -28,6 +29,11 @@ pub record Exported (Γ fn fs ws out told fs′ ws′ out′ told′ : List ℕ)
 pub record Exported-items (ws : List ℕ) (n : ℕ) (out′ : List ℕ) (r : ℕ) : Type 0 where
   pub answer : r ≡ number (statement-items ws n)
   pub left : out′ ≡ items-lent n (statement-items ws n)
+
+-- two type records as one, in an output of n words
+pub record Exported-merged (Γ Δ : List ℕ) (n : ℕ) (out′ : List ℕ) (r : ℕ) : Type 0 where
+  pub answer : r ≡ number (merge-types Γ Δ n)
+  pub left : out′ ≡ merged-lent n (merge-types Γ Δ n)
 
 -- of a crate: the refusal's number, and 256 times the function's position; or 0
 abbrev pub position-number : Verdict → ℕ

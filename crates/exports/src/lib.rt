@@ -1,5 +1,5 @@
 // The calls for programs in Rust and C, as a static library: the whole-function call, a whole crate in one call, what `ghosts` prints of a
-// text, and the items of a list of statements.
+// text, the items of a list of statements, and two type records that become one.
 ghost use mathlib.Core.Path.{_≡_};
 ghost use mathlib.Core.Logic.{_≢_};
 ghost use mathlib.Core.Bool.{true};
@@ -10,14 +10,17 @@ ghost use Rattle.model.specs.Words.{word};
 ghost use Rattle.model.specs.Crate.{records};
 ghost use Rattle.model.specs.Replay.{Replayed, Replayed-each};
 ghost use Rattle.model.specs.Told.{number-ok, Numbered};
-ghost use Rattle.model.specs.Promised.{One-of, whole-numbers, statement-numbers, Answered};
+ghost use Rattle.model.specs.Merge.{record-in, Passes, Links};
+ghost use Rattle.model.specs.Promised.{One-of, whole-numbers, statement-numbers, merge-numbers, Answered};
 ghost use Rattle.model.specs.Ghosts.{ghosts};
 ghost use Rattle.answer.specs.Said.{Printed};
-ghost use Rattle.exports.specs.Answers.{Exported, Exported-items, Exported-crate, Refusal-in};
+ghost use Rattle.exports.specs.Answers.{Exported, Exported-items, Exported-merged, Exported-crate, Refusal-in};
 use assign::Items;
 use assign::statement_items;
 use fold_unfold::Ghosts;
 use fold_unfold::ghost_statements;
+use merge::Merged;
+use merge::merge_types;
 use whole_crate::Crate;
 use whole_crate::crate_statements;
 
@@ -85,5 +88,20 @@ pub extern "C" fn exports_statement_items(list: &[u32], out: &mut [u32]) -> u32
     match g {
         Items::Refused(n) => n,
         Items::Done(_) => 0,
+    }
+}
+
+// Two type records as one: 0, or the refusal. Accepted: the merged record, then zeros; its sizes are its first two words. A refusal leaves zeros.
+#[no_mangle]
+pub extern "C" fn exports_merge_types(first: &[u32], second: &[u32], out: &mut [u32]) -> u32
+    ensures { λ r. ⌜ Exported-merged (now (first .entry)) (now (second .entry)) (length (now (out .entry))) (now (out .exit)) r ⌝ }
+    ensures numbered { λ r. ⌜ One-of (0 ∷ merge-numbers) r ⌝ }
+    ensures passes { λ r. ⌜ (r ≡ 0 → Passes (now (out .exit))) ⌝ }
+    ensures links { λ r. ⌜ (r ≡ 0 → Links (now (first .entry)) (now (second .entry)) (record-in (now (out .exit)))) ⌝ }
+{
+    let g = merge_types(first, second, out);
+    match g {
+        Merged::Refused(n) => n,
+        Merged::Done(_) => 0,
     }
 }

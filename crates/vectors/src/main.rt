@@ -7,6 +7,7 @@ ghost use Rattle.stream.specs.Filled.{Filled};
 mod checks;
 mod items;
 mod lists;
+mod merges;
 mod places;
 mod states;
 mod whole;
@@ -34,6 +35,7 @@ fn answer(words: &[u32]) {
         4..=7 => places::call(call, rest),
         12 => items::call(rest),
         13 => whole::call(call, rest),
+        14 => merges::call(rest),
         _ => states::call(call, rest),
     }
     print_text(b"\n");
