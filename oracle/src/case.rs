@@ -2,15 +2,15 @@
 //!
 //! ```text
 //! case NUMBER CALL NAME       NAME only in the kind `limits`
-//! types W..  function W..     records, whole
+//! types W..  function W..     records, whole;  types2 W.. the second type record of merge_types
 //! locals W..                  the local types of a call on states
 //! count N  forms W..  whats W..        a state; the second is count2, forms2, whats2
 //! ops W..  args W..           the items of a place
 //! variant V                   of downcast;  in_mut_ref 0|1 of join_nodes
 //! arg_count A                 of collect_folds_at_ret
 //! room F W O N                lengths of the lent arrays: store forms, store whats, output, and the
-//!                             numbers beside it; of crate_statements no N, of a collecting call and
-//!                             of statement_items O alone
+//!                             numbers beside it; of crate_statements no N, of a collecting call, of
+//!                             statement_items and of merge_types O alone
 //! list W..                    a list of statements, of statement_items; count and records, of
 //!                             crate_statements
 //! input B..                   the bytes on standard input of `ghosts`
@@ -28,7 +28,7 @@
 //! collecting calls statements and entries; of `statement_items` the number of items; of `projection`
 //! 0 nothing, 1 fold, or 2 and the number of elements to record, and last the walk's number; of
 //! `join` the flag; of `join_nodes` both flags; of `crate_statements` statements and entries of each
-//! function.
+//! function; of `merge_types` the length of the record; of the others none.
 //! State arrays, `out`, `told` and shares are written without the zeros at their end, and a share
 //! that is all zero isn't written. After a refusal all that was lent is zero, and states are as they
 //! came.
@@ -40,6 +40,7 @@ use crate::{
     env::ProjResult,
     function::Body,
     ghosts::ghosts,
+    merge::merge_types,
     refusal::Refusal,
     state::{trimmed, State, MAX_NODES},
     statements::statement_items,
@@ -70,6 +71,8 @@ pub enum Call {
     StatementItems,
     /// `whole_crate::crate_statements`.
     CrateStatements,
+    /// `merge::merge_types`.
+    MergeTypes,
 }
 
 impl Call {
@@ -102,6 +105,7 @@ impl Call {
             Call::CollectFoldsAtRet => "collect_folds_at_ret",
             Call::StatementItems => "statement_items",
             Call::CrateStatements => "crate_statements",
+            Call::MergeTypes => "merge_types",
         }
     }
 
@@ -134,6 +138,8 @@ pub struct Case {
     pub input: Vec<u8>,
     /// Statements; or the count and the records of a crate.
     pub list: Vec<u32>,
+    /// The second type record.
+    pub types2: Vec<u32>,
 }
 
 /// An answer: the refusal or the words after `accepted`, then the lines that follow.
@@ -156,6 +162,7 @@ impl Case {
             room: vec![],
             input: vec![],
             list: vec![],
+            types2: vec![],
         }
     }
 
@@ -173,6 +180,10 @@ impl Case {
 
     pub fn crate_statements(types: Vec<u32>, list: Vec<u32>, room: [usize; 3]) -> Case {
         Case { types, list, room: room.to_vec(), ..Case::new(Call::CrateStatements) }
+    }
+
+    pub fn merge_types(types: Vec<u32>, types2: Vec<u32>, room: usize) -> Case {
+        Case { types, types2, room: vec![room], ..Case::new(Call::MergeTypes) }
     }
 
     pub fn set_place(&mut self, items: &[(u32, u32)]) {
@@ -227,6 +238,9 @@ impl Case {
                 self.answer_lent(|out| statement_items(&self.list, out).map(|count| vec![count]))
             }
             Call::CrateStatements => self.answer_crate(),
+            Call::MergeTypes => self.answer_lent(|out| {
+                merge_types(&self.types, &self.types2, out).map(|length| vec![length])
+            }),
         }
     }
 
@@ -349,6 +363,7 @@ impl Case {
             Call::Types => {}
             Call::Function | Call::Whole => push_line(text, "function", &self.function),
             Call::CrateStatements => push_line(text, "list", &self.list),
+            Call::MergeTypes => push_line(text, "types2", &self.types2),
             _ => push_line(text, "locals", &self.locals),
         }
         for (state, suffix) in self.states.iter().zip(["", "2"]) {

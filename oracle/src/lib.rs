@@ -13,6 +13,8 @@ pub mod function;
 pub mod ghost_statements;
 /// The text program.
 pub mod ghosts;
+/// Two type records become one.
+pub mod merge;
 /// Places, their items and refusal 4.
 pub mod place;
 /// A tree: one place with what is unfolded below it.

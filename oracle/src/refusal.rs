@@ -13,6 +13,7 @@ pub enum Refusal {
     StateFull = 9,
     ShortStore = 10,
     UnknownStatement = 11,
+    MergedTooLarge = 12,
 }
 
 impl Refusal {

@@ -1,4 +1,4 @@
-//! The type record, read, and refusal 1. It stands for the source's `GlobalEnv` and `Ty`.
+//! The type record, read and written, and refusal 1. It stands for the source's `GlobalEnv` and `Ty`.
 
 use std::collections::HashSet;
 
@@ -57,6 +57,16 @@ pub struct Types {
 pub fn written_length(words: &[u32]) -> Option<u64> {
     let sizes = words.get(..2)?;
     Some(2 + 2 * u64::from(sizes[0]) + u64::from(sizes[1]))
+}
+
+/// The type record of these types: T, P; kinds, counts, parts.
+pub fn record(types: &[(TyKind, Vec<u32>)]) -> Vec<u32> {
+    let counts = types.iter().map(|(_, parts)| parts.len() as u32);
+    let mut words = vec![types.len() as u32, counts.clone().sum()];
+    words.extend(types.iter().map(|(kind, _)| *kind as u32));
+    words.extend(counts);
+    words.extend(types.iter().flat_map(|(_, parts)| parts));
+    words
 }
 
 impl Types {
@@ -134,6 +144,11 @@ impl Types {
 
     fn parts(&self, ty: Ty) -> &[u32] {
         &self.parts[ty as usize]
+    }
+
+    /// Each type's kind and parts, in order.
+    pub fn iter(&self) -> impl Iterator<Item = (TyKind, &[u32])> {
+        self.kinds.iter().copied().zip(self.parts.iter().map(Vec::as_slice))
     }
 
     /// The pointee of a pointer, a mutable reference or a box.

@@ -51,7 +51,8 @@ fn oracle_says_what_it_cannot_read_or_write() {
 
 #[test]
 fn cases_prints_each_case_whole() {
-    for kind in ["whole", "types", "function", "items", "ghosts", "states", "join"] {
+    let kinds = ["whole", "types", "function", "items", "ghosts", "merge_types", "states", "join"];
+    for kind in kinds {
         let (success, text) = cases(&format!("--seed 4 --count 30 --kind {kind} --small"));
         assert!(success);
         for start in ["case ", "answer ", "end"] {

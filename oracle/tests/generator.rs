@@ -13,7 +13,7 @@ fn some(kind: Kind, size: Size, want: u32, count: usize) -> Vec<Case> {
 }
 
 /// Which refusals each call can give.
-const GIVES: [(Call, &[u32]); 15] = [
+const GIVES: [(Call, &[u32]); 16] = [
     (Call::Whole, &[0, 1, 2, 4, 5, 6, 8, 9, 10]),
     (Call::Types, &[0, 1]),
     (Call::Function, &[0, 1, 2, 4]),
@@ -29,6 +29,7 @@ const GIVES: [(Call, &[u32]); 15] = [
     (Call::CollectFoldsAtRet, &[0, 1, 3, 10]),
     (Call::StatementItems, &[0, 2, 10, 11]),
     (Call::CrateStatements, &[0, 1, 2, 4, 5, 6, 8, 9, 10]),
+    (Call::MergeTypes, &[0, 1, 10, 12]),
 ];
 
 #[test]
@@ -100,7 +101,8 @@ fn the_usual_mix() {
 
 #[test]
 fn the_same_seed_gives_the_same_cases() {
-    for kind in ["whole", "types", "function", "items", "ghosts", "statement_items", "states"] {
+    let kinds = ["whole", "types", "function", "items", "ghosts", "statement_items", "merge_types"];
+    for kind in kinds.into_iter().chain(["states"]) {
         let kind = Kind::from_name(kind).expect("a kind");
         let cases = || {
             let mut rng = Rng::new(7);

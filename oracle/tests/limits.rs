@@ -1,5 +1,5 @@
 //! The cases round each limit and those of the requests: which are refused, and with what. Those of
-//! lists of statements are in `statements.rs`.
+//! lists of statements are in `statements.rs`, of crates in `crates.rs`, of merged types in `merge.rs`.
 
 use oracle::{case::Call, generate::limits::limits};
 
@@ -173,7 +173,7 @@ fn expected(name: &str) -> u32 {
 fn each_limit() {
     let mut cases = limits();
     // Those have tests of their own.
-    let others = [Call::StatementItems, Call::CrateStatements];
+    let others = [Call::StatementItems, Call::CrateStatements, Call::MergeTypes];
     cases.retain(|(_, case)| !others.contains(&case.call));
     for (name, case) in &cases {
         assert_eq!(case.refusal(), expected(name), "{name}");

@@ -6,8 +6,8 @@
 //!
 //! Kinds: whole (the default), types, function, items (functions of a few items, in order or
 //! nearly so), words (any words as the records of a whole function, and good ones with a word
-//! changed), ghosts, statement_items, states (any call on states), and each call on states by its
-//! name.
+//! changed), ghosts, statement_items, crate_statements, merge_types, states (any call on states), and
+//! each call on states by its name.
 //! `--want R` asks for refusal R, 0 for accepted. Two kinds aren't random and don't look at want
 //! and size: limits, all of them, each with a name; and short, one block of item codes each, the
 //! shorter first, from the one that the seed numbers.

@@ -7,6 +7,7 @@ pub mod draft;
 pub mod full;
 pub mod function;
 pub mod limits;
+pub mod merge;
 pub mod numbers;
 pub mod places;
 pub mod requests;
@@ -49,8 +50,8 @@ impl Kind {
             _ => {}
         }
         let calls = [Call::Types, Call::Function, Call::Whole, Call::Ghosts];
-        let calls = calls.into_iter().chain([Call::StatementItems, Call::CrateStatements]);
-        let mut calls = calls.chain(Call::ON_STATES);
+        let requests = [Call::StatementItems, Call::CrateStatements, Call::MergeTypes];
+        let mut calls = calls.into_iter().chain(requests).chain(Call::ON_STATES);
         calls.find(|call| call.name() == name).map(Kind::Call)
     }
 }
@@ -83,6 +84,7 @@ fn any(rng: &mut Rng, kind: Kind, size: Size) -> Case {
         Kind::Call(Call::Ghosts) => whole::ghosts_case(rng, size),
         Kind::Call(Call::StatementItems) => statements::statements_case(rng, size),
         Kind::Call(Call::CrateStatements) => crates::crate_case(rng, size),
+        Kind::Call(Call::MergeTypes) => merge::merge_case(rng, size),
         Kind::Call(Call::Whole) => unreachable!("made by `whole_case`"),
         Kind::Call(call) => states::random_case(rng, call, size),
     }

@@ -4,6 +4,7 @@ use super::{
     crates::crates,
     draft::{push_note, push_return, push_switch, push_use, Draft},
     limits::{root, whole, Named},
+    merge::merges,
     numbers::numbers,
     statements::lists,
     types::TypeList,
@@ -19,6 +20,7 @@ pub fn requests(cases: &mut Vec<Named>) {
     lists(cases);
     crates(cases);
     numbers(cases);
+    merges(cases);
 }
 
 const ARRAY: Ty = 1;

@@ -1,7 +1,7 @@
 //! Random type records.
 
 use super::{rng::Rng, Size};
-use crate::types::{Ty, TyKind};
+use crate::types::{record, Ty, TyKind};
 
 /// A type record in the making.
 #[derive(Clone, Default)]
@@ -16,12 +16,7 @@ impl TypeList {
     }
 
     pub fn words(&self) -> Vec<u32> {
-        let parts = self.list.iter().map(|(_, parts)| parts.len() as u32);
-        let mut words = vec![self.list.len() as u32, parts.clone().sum()];
-        words.extend(self.list.iter().map(|(kind, _)| *kind as u32));
-        words.extend(parts);
-        words.extend(self.list.iter().flat_map(|(_, parts)| parts));
-        words
+        record(&self.list)
     }
 
     /// The types that may be a field, a pointee or a local's.
