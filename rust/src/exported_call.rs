@@ -42,6 +42,15 @@ mod foreign {
             out: *mut u32,
             out_len: usize,
         ) -> u32;
+
+        pub fn exports_merge_types(
+            first: *const u32,
+            first_len: usize,
+            second: *const u32,
+            second_len: usize,
+            out: *mut u32,
+            out_len: usize,
+        ) -> u32;
     }
 }
 
@@ -117,6 +126,21 @@ pub fn exported_statement_items(list: &[u32], out: &mut [u32]) -> u32 {
     // thread has stack enough.
     unsafe {
         foreign::exports_statement_items(list.as_ptr(), list.len(), out.as_mut_ptr(), out.len())
+    }
+}
+
+/// Two type records merged, as it is lent; 0 or the refusal.
+pub fn exported_merge_types(first: &[u32], second: &[u32], out: &mut [u32]) -> u32 {
+    // SAFETY: As above, of three slices of which the last is written; the first two may be one.
+    unsafe {
+        foreign::exports_merge_types(
+            first.as_ptr(),
+            first.len(),
+            second.as_ptr(),
+            second.len(),
+            out.as_mut_ptr(),
+            out.len(),
+        )
     }
 }
 

@@ -297,6 +297,18 @@ impl Function {
         self.ranks = Some(ranks.to_vec());
     }
 
+    /// The same function over a merged record, in which the record that it was written over stands behind
+    /// another of so many types ([`crate::Types::count`]): its local types are moved up, and nothing else
+    /// changes. [`crate::merge_types`] has an example.
+    ///
+    /// Nothing wraps. A local type that doesn't fit becomes 2^32 − 1, which no record has, so that the
+    /// function is refused with [`Refusal::BadFunction`] as it is over its own record: a first record has
+    /// at most 4,096 types, and what doesn't fit when it is moved by so many is no record's type.
+    pub fn moved(&self, by: u32) -> Function {
+        let locals = self.locals.iter().map(|ty| ty.moved(by)).collect();
+        Function { locals, ..self.clone() }
+    }
+
     /// The function record.
     pub fn record(&self) -> Vec<u32> {
         let blocks = self.blocks.iter().map(|block| &block.items);

@@ -20,13 +20,15 @@
 //!
 //! Records are laid out as document 01 says. [`Types`] and [`Function`] write them; the example
 //! beside [`Function`] is the worked example of document 01. [`crate_statements`] takes all functions of
-//! a crate at once. The last word of a line is what the statement tells of where it comes from, [`Told`].
+//! a crate at once. [`merge_types`] makes one type record of two that were written apart. The last word of
+//! a line is what the statement tells of where it comes from, [`Told`].
 
 #![deny(unsafe_code)]
 
 mod assign;
 mod exported_call;
 mod function;
+mod merge;
 mod place;
 mod refusal;
 mod sizes;
@@ -39,6 +41,7 @@ pub use assign::{
     statement_items, statement_items_into, statement_list, Assign, Items, Operand, Rvalue,
 };
 pub use function::{Block, Function, Label, Open, Read, Switch};
+pub use merge::{merge_types, merge_types_into};
 pub use place::{Elem, Place};
 pub use refusal::Refusal;
 pub use stack::{CALLERS_BLOCKS, STACK};

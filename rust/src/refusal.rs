@@ -2,7 +2,7 @@
 
 use std::{error::Error, fmt};
 
-/// Why a function, or a list of statements, was refused, with its number and word.
+/// Why a function, a list of statements or a pair of type records was refused, with its number and word.
 ///
 /// ```
 /// let refusal = hirvoksne::ghost_statements(&[], &[]).unwrap_err();
@@ -27,11 +27,13 @@ pub enum Refusal {
     ShortStore = 10,
     /// Of lists of statements alone: [`crate::statement_items`].
     UnknownStatement = 11,
+    /// Of two type records alone: [`crate::merge_types`].
+    MergedTooLarge = 12,
 }
 
 impl Refusal {
     /// All of them, in the order of their numbers.
-    pub const ALL: [Refusal; 11] = [
+    pub const ALL: [Refusal; 12] = [
         Refusal::BadTypes,
         Refusal::BadFunction,
         Refusal::BadState,
@@ -43,9 +45,10 @@ impl Refusal {
         Refusal::StateFull,
         Refusal::ShortStore,
         Refusal::UnknownStatement,
+        Refusal::MergedTooLarge,
     ];
 
-    /// Its number: 1 to 10 of document 01's table, 11 of document 02.
+    /// Its number: 1 to 10 of document 01's table, 11 and 12 of document 02.
     pub fn number(self) -> u32 {
         self as u32
     }
@@ -69,6 +72,7 @@ impl Refusal {
             Refusal::StateFull => "state full",
             Refusal::ShortStore => "short store",
             Refusal::UnknownStatement => "unknown statement",
+            Refusal::MergedTooLarge => "merged too large",
         }
     }
 
@@ -91,10 +95,13 @@ impl Refusal {
             Refusal::NoSuchValue => "an arm's value belongs to no variant left",
             Refusal::StateFull => "a state would have over 512 nodes",
             Refusal::ShortStore => {
-                "a lent store, statement buffer, array of numbers or item buffer is too short"
+                "a lent store, statement buffer, array of numbers, item buffer or output is too short"
             },
             Refusal::UnknownStatement => {
                 "a statement of no known kind, flag or operand count, or a constant for a place"
+            }
+            Refusal::MergedTooLarge => {
+                "two type records together have over 4,096 types or 16,384 parts"
             }
         }
     }

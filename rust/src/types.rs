@@ -31,6 +31,13 @@ impl Type {
     pub fn number(self) -> u32 {
         self.0
     }
+
+    /// The same type of a second record, once it is merged behind a first of so many types
+    /// ([`Types::count`]): see [`crate::merge_types`]. A number that doesn't fit is 2^32 − 1, which no
+    /// record has.
+    pub fn moved(self, by: u32) -> Type {
+        Type(self.0.saturating_add(by))
+    }
 }
 
 const OPAQUE: u32 = 0;
@@ -132,6 +139,11 @@ impl Types {
 
     pub fn enumeration(&mut self, variants: &[Variant]) -> Type {
         Type(self.push(ENUM, variants.iter().map(|variant| variant.0).collect()))
+    }
+
+    /// How many types there are, variants counted in.
+    pub fn count(&self) -> u32 {
+        self.list.len() as u32
     }
 
     /// The type record.

@@ -133,7 +133,7 @@ fn numbers_and_words() {
         assert_eq!(Refusal::from_number(refusal.number()), Some(refusal));
         assert!(refusal.to_string().starts_with(&format!("{}: ", refusal.word())));
     }
-    assert_eq!([0, 12].map(Refusal::from_number), [None, None]);
+    assert_eq!([0, 13].map(Refusal::from_number), [None, None]);
 }
 
 #[test]

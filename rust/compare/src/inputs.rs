@@ -1,6 +1,6 @@
 //! Functions to measure, each as its type record and its function record.
 
-use hirvoksne::{Assign, Elem, Function, Label, Open, Operand, Place, Rvalue, Types};
+use hirvoksne::{Assign, Elem, Function, Label, Open, Operand, Place, Rvalue, Type, Types};
 use oracle::generate::{random, rng::Rng, Kind, Size};
 use oracle::{
     case::Call,
@@ -193,6 +193,36 @@ pub fn waiting() -> Input {
     Input::new(&types, &function)
 }
 
+/// Six types more, over an opaque one and the last; gives their last.
+fn six_types(types: &mut Types, int: Type, last: Type, n: usize) -> Type {
+    let pointer = types.mut_ref(last);
+    let pair = types.structure(&[int, pointer, int, last, int, int, int]);
+    let variants = [types.variant(0, &[pair, int, int]), types.variant(1, &[int, int, int])];
+    let list = types.enumeration(&variants);
+    if n.is_multiple_of(2) {
+        types.tuple(&[list, int, int, int, int])
+    } else {
+        types.boxed(list)
+    }
+}
+
+/// So many types with four times as many parts, the limits' own ratio: two records of 2,048 types make
+/// the largest merged record.
+pub fn types_to_merge(count: usize) -> Vec<u32> {
+    let mut types = Types::new();
+    let int = types.opaque();
+    let mut last = int;
+    for n in 0..(count - 2) / 6 {
+        last = six_types(&mut types, int, last, n);
+    }
+    while (types.count() as usize) < count - 1 {
+        types.array();
+    }
+    let parts = 4 * count - types.record()[1] as usize;
+    types.structure(&vec![int; parts]);
+    types.record()
+}
+
 /// 4,096 types with 14,322 parts, and a function that looks at few of them.
 pub fn many_types() -> Input {
     let mut types = Types::new();
@@ -200,15 +230,7 @@ pub fn many_types() -> Input {
     (0..3).for_each(|_| {
         types.array();
     });
-    let mut last = int;
-    for n in 0..682 {
-        let pointer = types.mut_ref(last);
-        let pair = types.structure(&[int, pointer, int, last, int, int, int]);
-        let variants = [types.variant(0, &[pair, int, int]), types.variant(1, &[int, int, int])];
-        let list = types.enumeration(&variants);
-        last =
-            if n % 2 == 0 { types.tuple(&[list, int, int, int, int]) } else { types.boxed(list) };
-    }
+    let last = (0..682).fold(int, |last, n| six_types(&mut types, int, last, n));
     let mut function = Function::new(int, &[last], &[]);
     let block = function.block();
     function.write(block, Open::new().used(&Place::local(1)).ret());
@@ -391,5 +413,18 @@ mod tests {
         let one = hirvoksne::ghost_statements(&types, &functions[1]).unwrap();
         assert_eq!((one.join_points(), one.len() > 3), (&[4][..], true));
         assert!(small(3).iter().all(|input| input.sizes().0 == 10));
+    }
+
+    #[test]
+    fn the_largest_sum() {
+        for count in [512, 1024, 2048] {
+            let record = types_to_merge(count);
+            assert_eq!(record[..2], [count as u32, 4 * count as u32]);
+            let merged = hirvoksne::merge_types(&record, &record).unwrap();
+            assert_eq!(merged[..2], [2 * count as u32, 8 * count as u32]);
+        }
+        let largest = types_to_merge(2048);
+        let larger = hirvoksne::merge_types(&largest, &types_to_merge(2049));
+        assert_eq!(larger, Err(hirvoksne::Refusal::MergedTooLarge));
     }
 }

@@ -26,24 +26,30 @@ impl<A: PartialEq + Debug> Left<A> {
         Left { answer, forms, whats, out, told }
     }
 
-    /// The first difference of the library's from the oracle's.
-    pub fn difference(&self, oracle: &Left<A>) -> Option<String> {
-        if self.answer != oracle.answer {
-            return Some(format!("answer: library {:?}, oracle {:?}", self.answer, oracle.answer));
+    /// The first difference of one from the other, by their names.
+    pub fn difference(&self, other: &Left<A>, names: [&str; 2]) -> Option<String> {
+        let [own, others] = names;
+        if self.answer != other.answer {
+            return Some(format!("answer: {own} {:?}, {others} {:?}", self.answer, other.answer));
         }
-        word("store forms", &self.forms, &oracle.forms)
-            .or_else(|| word("store whats", &self.whats, &oracle.whats))
-            .or_else(|| word("buffer", &self.out, &oracle.out))
-            .or_else(|| word("numbers", &self.told, &oracle.told))
+        word("store forms", &self.forms, &other.forms, names)
+            .or_else(|| word("store whats", &self.whats, &other.whats, names))
+            .or_else(|| word("buffer", &self.out, &other.out, names))
+            .or_else(|| word("numbers", &self.told, &other.told, names))
     }
 }
 
-fn word<W: PartialEq + Debug>(name: &str, library: &[W], oracle: &[W]) -> Option<String> {
+fn word<W: PartialEq + Debug>(
+    name: &str,
+    own: &[W],
+    other: &[W],
+    names: [&str; 2],
+) -> Option<String> {
     // Whole slices are the quicker to compare.
-    if library == oracle {
+    if own == other {
         return None;
     }
-    let mut pairs = library.iter().zip(oracle).enumerate();
+    let mut pairs = own.iter().zip(other).enumerate();
     let (at, (first, second)) = pairs.find(|(_, (first, second))| first != second)?;
-    Some(format!("{name}, word {at}: library {first:?}, oracle {second:?}"))
+    Some(format!("{name}, word {at}: {} {first:?}, {} {second:?}", names[0], names[1]))
 }

@@ -9,13 +9,14 @@
 //!
 //! The second table is of lists of statements, whose items both sides write into a buffer that is just
 //! long enough; the third of crates, by the library alone: all functions in one call, beside a call for
-//! each.
+//! each; the fourth of two type records merged, by both sides, into an output that is just long enough.
 
 use std::{hint::black_box, time::Instant};
 
 use compare::{
     inputs::{
-        assigns, device_model, items, large, many_types, match_chain, rounds, small, waiting, Input,
+        assigns, device_model, items, large, many_types, match_chain, rounds, small,
+        types_to_merge, waiting, Input,
     },
     options::Options,
 };
@@ -165,6 +166,28 @@ fn print_crate(functions: usize, repeats: usize) {
     );
 }
 
+/// Two type records of so many types each; of 2,048 the merged record is the largest that there is.
+fn print_merge(types: usize, repeats: usize) {
+    let record = types_to_merge(types);
+    let merged = hirvoksne::merge_types(&record, &record).expect("accepted");
+    let words = merged.len();
+    let mut out = vec![0; words];
+    let [library, transcription, ratio] = medians(repeats, 1, |side| {
+        let (first, second) = (black_box(&record), black_box(&record));
+        let length = match side {
+            0 => hirvoksne::merge_types_into(first, second, &mut out).ok(),
+            _ => oracle::merge::merge_types(first, second, &mut out).ok(),
+        };
+        assert_eq!(black_box(length), Some(words));
+    });
+    println!(
+        "| merge-{} | {} | {words} | {library:.1} | {transcription:.1} | {ratio:.2} | {:.1} |",
+        merged[0],
+        merged[1],
+        library * 1e3 / words as f64
+    );
+}
+
 /// What is measured: its name, what it is, and its inputs.
 type Kind = (&'static str, &'static str, fn() -> Vec<Input>);
 
@@ -209,5 +232,8 @@ fn main() {
         );
         println!("|---|---|---|---|---|---|---|");
         [1, 15, 60].into_iter().for_each(|functions| print_crate(functions, repeats));
+        println!("\n| name | parts | words | library µs | transcription µs | ratio | ns a word |");
+        println!("|---|---|---|---|---|---|---|");
+        [512, 1024, 2048].into_iter().for_each(|types| print_merge(types, repeats));
     }
 }

@@ -1,13 +1,16 @@
 //! The library against the transcription: the same words in, the same words out, to the last:
 //! refusal, counts, both store arrays, the buffer and the numbers beside it; then the safe call, whose
-//! answer, text and numbers are compared too. So with lists of statements: refusal, count and buffer, and the safe call's items; and
-//! with crates: refusal and position, and the text of each function.
+//! answer, text and numbers are compared too. So with lists of statements: refusal, count and buffer, and
+//! the safe call's items; with crates: refusal and position, and the text of each function; and with pairs
+//! of type records: refusal and merged record. Over each merged record the library runs a function of the
+//! first and a moved one of the second, and must leave what it leaves over their own records.
 //!
 //! ```text
 //! compare [--seed S] [--count N]    the cases round each limit, then N random and damaged ones; the
-//!                                   same of lists of statements and of crates; then texts for
-//!                                   `ghosts`, a tenth as many
-//! compare --exhaustive              all short records and lists over a few words, all small functions
+//!                                   same of lists of statements, of crates and of pairs of type
+//!                                   records; then texts for `ghosts`, a tenth as many
+//! compare --exhaustive              all short records, pairs and lists over a few words, all small
+//!                                   functions
 //! ```
 //!
 //! The first difference ends the run with its input. The second run also fails if it accepts too few
@@ -25,12 +28,15 @@ use oracle::{
         damage::damage_words,
         draft::{push_switch, push_use, Draft, Item},
         limits::limits,
+        merge::function_over,
         random,
         rng::Rng,
         Kind, Size,
     },
     ghost_statements::GhostStatements,
+    merge::{self, local_types, moved},
     place::{Place, PlaceElem},
+    types::Types,
     whole_crate,
 };
 
@@ -50,6 +56,7 @@ fn main() {
         tally.part(&format!("limits, and {count} lists of seed {seed}"), "items");
         crates(&mut tally, seed, count);
         tally.part(&format!("limits, and {count} crates of seed {seed}"), "functions");
+        merges(&mut tally, seed, count);
         texts(&mut tally, seed, count / 10);
     }
     println!("{} cases, no difference, {:.1?}", tally.cases, start.elapsed());
@@ -60,8 +67,8 @@ fn main() {
 struct Tally {
     /// In the whole run.
     cases: u64,
-    answers: [u64; 12],
-    /// Statements, or items.
+    answers: [u64; 13],
+    /// Statements, items, functions or types.
     given: u64,
 }
 
@@ -80,13 +87,25 @@ impl<'a> Input<'a> {
     }
 }
 
-/// What both sides leave of a function.
-fn function_left(input: &Input) -> [Left<Result<(usize, usize), u32>>; 2] {
+const WHOLE: Kind = Kind::Call(Call::Whole);
+
+/// Whose answers are compared.
+const SIDES: [&str; 2] = ["library", "oracle"];
+
+/// What a side leaves of a function.
+type FunctionLeft = Left<Result<(usize, usize), u32>>;
+
+fn library_left(input: &Input, byte: u8) -> FunctionLeft {
     let Input { types, function, room } = *input;
-    let library = Left::by(room, 0x55, |forms, whats, out, told| {
+    Left::by(room, byte, |forms, whats, out, told| {
         let answer = hirvoksne::ghost_statements_into(types, function, forms, whats, out, told);
         answer.map_err(|refusal| refusal.number())
-    });
+    })
+}
+
+fn function_left(input: &Input) -> [FunctionLeft; 2] {
+    let Input { types, function, room } = *input;
+    let library = library_left(input, 0x55);
     let oracle = Left::by(room, 0xaa, |forms, whats, out, told| {
         let answer = calls::ghost_statements(types, function, forms, whats, out, told);
         answer.map_err(|refusal| refusal.number())
@@ -124,7 +143,7 @@ impl Tally {
     /// Compares what both sides leave, then the safe call with it.
     fn compare(&mut self, input: &Input) {
         let [library, oracle] = function_left(input);
-        if let Some(found) = library.difference(&oracle) {
+        if let Some(found) = library.difference(&oracle, SIDES) {
             differ(self.cases, input, &found);
         }
         let answer = oracle.answer.map(|_| {
@@ -184,7 +203,7 @@ impl Tally {
     /// Compares what both sides leave of a crate, then the safe call with it.
     fn compare_crate(&mut self, case: &Case) {
         let [library, oracle] = crate_left(case);
-        if let Some(found) = library.difference(&oracle) {
+        if let Some(found) = library.difference(&oracle, SIDES) {
             differ_crate(case, &found);
         }
         let number = oracle.answer.map_or_else(|(number, _)| number, |()| 0);
@@ -201,6 +220,81 @@ impl Tally {
         self.given += oracle.answer.map_or(0, |()| u64::from(case.list[0]));
         self.answers[number as usize] += 1;
         self.cases += 1;
+    }
+}
+
+impl Tally {
+    /// Compares what both sides leave of two type records in so many words, then the safe call with it.
+    /// The merged record, if there is one.
+    fn compare_merge(&mut self, first: &[u32], second: &[u32], room: usize) -> Option<Vec<u32>> {
+        let (mut out, mut expected) = (vec![0x5555_5555; room], vec![0xaaaa_aaaa; room]);
+        let library = hirvoksne::merge_types_into(first, second, &mut out);
+        let library = library.map_err(|refusal| refusal.number());
+        let oracle = merge::merge_types(first, second, &mut expected);
+        let oracle = oracle.map_err(|refusal| refusal.number());
+        if library != oracle || out != expected {
+            differ_merge(
+                [first, second],
+                &format!("library {library:?} {out:?}\noracle {oracle:?} {expected:?}"),
+            );
+        }
+        let number = *oracle.as_ref().err().unwrap_or(&0);
+        let merged = oracle.map(|length| expected[..length].to_vec());
+        if number != 10 {
+            let safe = hirvoksne::merge_types(first, second).map_err(|refusal| refusal.number());
+            if safe != merged {
+                differ_merge([first, second], &format!("safe {safe:?}\noracle {merged:?}"));
+            }
+        }
+        self.given += merged.as_ref().map_or(0, |merged| u64::from(merged[0]));
+        self.answers[number as usize] += 1;
+        self.cases += 1;
+        merged.ok()
+    }
+
+    /// Compares what the library leaves of a function over a merged record with what it leaves over the one
+    /// that it was written over. `over` is nothing where the function can't be moved: it must be refused
+    /// with 2 then.
+    fn compare_over(&mut self, alone: &Input, over: Option<(&[u32], &[u32])>) {
+        let left = library_left(alone, 0x55);
+        let found = match over {
+            Some((types, function)) => {
+                let over = library_left(&Input { types, function, room: alone.room }, 0xaa);
+                over.difference(&left, ["merged", "alone"])
+            }
+            None => (left.answer != Err(2)).then(|| "a local type that can't be moved".to_string()),
+        };
+        if let Some(found) = found {
+            let merged = over.map_or(&[][..], |(types, _)| types);
+            differ(self.cases, alone, &format!("{found}\nmerged record {merged:?}"));
+        }
+        self.given += left.answer.map_or(0, |(statements, _)| statements as u64);
+        self.answers[left.answer.err().unwrap_or(0) as usize] += 1;
+        self.cases += 1;
+    }
+
+    /// Of a merged record a function over the second, and one over the first; now and then the generator's
+    /// own, which fill their states and lack store or output, over their types behind the first.
+    fn compare_functions(&mut self, rng: &mut Rng, first: &[u32], second: &[u32], merged: &[u32]) {
+        let room = [24 * SHARE, 24 * SHARE, 4096, 680];
+        let size = rng.weighted(&[(80, Size::Small), (20, Size::Normal)]);
+        let function = function_over(rng, second, size);
+        let over = moved(&function, first[0]);
+        let alone = Input { types: second, function: &function, room };
+        self.compare_over(&alone, over.as_ref().map(|over| (merged, &over[..])));
+        // A local type past the first is none of its, and may be one of the merged record.
+        let function = function_over(rng, first, size);
+        if local_types(&function).iter().all(|&ty| ty < first[0]) {
+            let alone = Input { types: first, function: &function, room };
+            self.compare_over(&alone, Some((merged, &function)));
+        }
+        let own = if rng.chance(20) { random(rng, WHOLE, size, None) } else { None };
+        let Some(case) = own else { return };
+        if let Ok(merged) = hirvoksne::merge_types(first, &case.types) {
+            let over = moved(&case.function, first[0]);
+            let over = over.as_ref().map(|over| (&merged[..], &over[..]));
+            self.compare_over(&Input::of(&case), over);
+        }
     }
 }
 
@@ -225,6 +319,11 @@ fn texts_of(mut out: &[u32], count: usize) -> Vec<String> {
 
 fn differ_crate(case: &Case, found: &str) -> ! {
     eprintln!("a difference, of the crate\n{}{found}", case.input_lines());
+    exit(1)
+}
+
+fn differ_merge([first, second]: [&[u32]; 2], found: &str) -> ! {
+    eprintln!("a difference, of the type records {first:?} and {second:?}\n{found}");
     exit(1)
 }
 
@@ -289,6 +388,32 @@ fn crates(tally: &mut Tally, seed: u64, count: u64) {
     }
 }
 
+/// Pairs of type records: those round each limit, and so many random and damaged ones; and functions over
+/// each merged record.
+fn merges(tally: &mut Tally, seed: u64, count: u64) {
+    let kind = Kind::Call(Call::MergeTypes);
+    let mut rng = Rng::new(seed);
+    let mut over = Tally::default();
+    let mut compare = |rng: &mut Rng, case: &Case| {
+        let Case { types, types2, room, .. } = case;
+        if let Some(merged) = tally.compare_merge(types, types2, room[0]) {
+            over.compare_functions(rng, types, types2, &merged);
+        }
+    };
+    let limits = limits().into_iter().map(|(_, case)| case);
+    for case in limits.filter(|case| case.call == Call::MergeTypes) {
+        compare(&mut rng, &case);
+    }
+    for _ in 0..count {
+        let size = rng.weighted(&[(40, Size::Small), (60, Size::Normal)]);
+        let case = random(&mut rng, kind, size, None).expect("any pair will do");
+        compare(&mut rng, &case);
+    }
+    tally.part(&format!("limits, and {count} pairs of type records of seed {seed}"), "types");
+    over.part("functions over the merged records", "statements");
+    tally.cases += over.cases;
+}
+
 /// What is printed of texts: those round each limit, and so many random and damaged ones.
 fn texts(tally: &mut Tally, seed: u64, count: u64) {
     let kind = Kind::Call(Call::Ghosts);
@@ -318,7 +443,7 @@ fn random_cases(rng: &mut Rng) -> Vec<Case> {
         1 => Kind::Call(Call::Function),
         2 => Kind::Items,
         3 => Kind::Words,
-        _ => Kind::Call(Call::Whole),
+        _ => WHOLE,
     };
     let Some(case) = random(rng, kind, size, None) else { return vec![] };
     let case = with_room(rng, case);
@@ -386,6 +511,35 @@ fn all_short(tally: &mut Tally) {
     let words = [0, 1, 2, 3, 6, 7, 8, 9, u32::MAX];
     each_list(&words, 7, |list| tally.compare_list(list, 16));
     tally.part("lists of up to 7 words", "items");
+    short_merges(tally);
+}
+
+/// All pairs of type records of up to 4 words over a few; then of those of up to 6 words that pass, with
+/// exactly enough output and with a word less.
+fn short_merges(tally: &mut Tally) {
+    let (mut short, mut good) = (vec![], vec![]);
+    each_list(&[0, 1, 4, 8, u32::MAX], 4, |record| short.push(record.to_vec()));
+    let words = [0, 1, 2, 3, 4, 5, 6, 7, 8, 9, 10, u32::MAX];
+    each_list(&words, 6, |record| {
+        if Types::read(record).is_ok() {
+            good.push(record.to_vec());
+        }
+    });
+    for (first, second) in pairs(&short) {
+        tally.compare_merge(first, second, 8);
+    }
+    tally.part("pairs of type records of up to 4 words", "types");
+    for (first, second) in pairs(&good) {
+        let needed = first.len() + second.len() - 2;
+        tally.compare_merge(first, second, needed);
+        tally.compare_merge(first, second, needed - 1);
+    }
+    tally.part("pairs of type records of up to 6 words that pass", "types");
+}
+
+fn pairs(records: &[Vec<u32>]) -> impl Iterator<Item = (&[u32], &[u32])> {
+    let with_all = |first| records.iter().map(move |second: &Vec<u32>| (first, &second[..]));
+    records.iter().map(|first| &first[..]).flat_map(with_all)
 }
 
 /// Room for so many join points and some statements.
