@@ -1,47 +1,109 @@
 -- Which item may follow which, and what stands before the item behind it: `may-follow` and `after`, case by case. Assumes nothing.
-use mathlib.Core.Path.{_≡_, _∙_, ap}
-use mathlib.Core.Bool.{Bool, true, false, cond, _&&_}
+use mathlib.Core.Path.{_≡_, refl, sym, _∙_}
+use mathlib.Core.Bool.{Bool, true, false, cond, not, _&&_, _||_}
 use mathlib.Core.List.{List, [], _∷_}
-use Prim.Native.Nat.{ℕ, zero, suc, _+_, _*_, _≤_, _<_}
+use mathlib.Core.Logic.{inl, inr}
+use Prim.Native.Nat.{ℕ, zero, suc, _+_, _-_, _*_, _≤_, _<_}
 use native.Mathlib.Nat.{le-of-suc-le-suc, not-suc-le-zero}
 use native.Mathlib.Omega.{arith}
-use lib.Dec.{eqb, leb, lit≤}
-use lib.ListN.{getD, take, drop}
-use lib.Seq.{getD-take, getD-drop}
-use borrow.Author.Tests.{ne-eqb, le-leb, lt-leb}
+use native.Mathlib.Decide.{decLt}
+use lib.Dec.{eqb, leb}
+use lib.ListN.{length, getD}
+use borrow.Author.Tests.{eq-eqb, ne-eqb, leb-true, le-leb, lt-leb}
+use types.Run.{OneOf}
+use Rattle.model.specs.Words.{all}
 use Rattle.model.specs.Function.{follow-table, may-follow, after}
+use Rattle.base.specs.Tests.{split, and-left, and-right}
+use Rattle.base.specs.Ranges.{Range}
+use Rattle.base.specs.Below.{all-at}
 
--- a bound of both bounds the choice
-cond-most : {m : ℕ} (t : Bool) {x y : ℕ} → x ≤ m → y ≤ m → cond t x y ≤ m
-cond-most true h l = h
-cond-most false h l = l
+-- ONE OF SOME NUMBERS
 
--- THE TABLE
+abbrev or-among : ℕ → List ℕ → ℕ → Bool
+or-among j [] k = eqb k j
+or-among j (i ∷ js) k = eqb k j || or-among i js k
 
--- the first k rows of a table of 13 columns
-unfoldable pub rows : ℕ → List ℕ → List (List ℕ)
-rows zero l = []
-rows (suc k) l = take 13 l ∷ rows k (drop 13 l)
+-- the test that `OneOf` says
+abbrev pub among : List ℕ → ℕ → Bool
+among [] k = false
+among (j ∷ js) k = or-among j js k
 
--- an entry, by its row and column
-rows-at : (k : ℕ) (l : List ℕ) (b n : ℕ) → b < k → n < 13 → getD (getD (rows k l) b []) n 0 ≡ getD l (13 * b + n) 0
-unfolding rows
-rows-at zero l b n h p = absurd (not-suc-le-zero h)
-rows-at (suc k) l zero n h p = getD-take 13 l n 0 p ∙ ap (λ (i : ℕ). getD l i 0) (let e : n ≡ 13 * 0 + n = omega arith in e)
-rows-at (suc k) l (suc b) n h p =
-    let e : 13 + (13 * b + n) ≡ 13 * suc b + n = omega arith in
-    rows-at k (drop 13 l) b n (le-of-suc-le-suc h) p ∙ getD-drop 13 l (13 * b + n) 0 ∙ ap (λ (i : ℕ). getD l i 0) e
+one-of : (js : List ℕ) (k : ℕ) → OneOf js k → true ≡ among js k
+one-of [] k h = absurd h
+one-of (j ∷ []) k e = sym (eq-eqb k j e)
+one-of (j ∷ i ∷ js) k (inl e) = rw (eq-eqb k j e)
+one-of (j ∷ i ∷ js) k (inr h) = split (eqb k j) (λ e. rw e) (λ e. rw e (one-of (i ∷ js) k h))
 
--- the entry for an item code behind what stands before decides
-pub may-follow-entry : (before o : ℕ) → before ≤ 8 → o ≤ 12 → eqb (getD (getD (rows 9 follow-table) before []) o 0) 1 ≡ may-follow before o
-unfolding may-follow
-may-follow-entry before o h l = rw (le-leb o 12 l, rows-at 9 follow-table before o (omega arith) (omega arith))
+none-of : (js : List ℕ) (k : ℕ) → ¬ OneOf js k → false ≡ among js k
+none-of [] k n = refl
+none-of (j ∷ []) k n = sym (ne-eqb k j n)
+none-of (j ∷ i ∷ js) k n = rw (ne-eqb k j (λ e. n (inl e))) (none-of (i ∷ js) k (λ h. n (inr h)))
+
+-- WHERE AN ITEM MAY STAND
+
+-- past a list's end there are zeros
+past : (l : List ℕ) (i : ℕ) → length l ≤ i → getD l i 0 ≡ 0
+past [] i h = refl
+past (x ∷ l) zero h = absurd (not-suc-le-zero h)
+past (x ∷ l) (suc i) h = past l i (le-of-suc-le-suc h)
+
+-- the table has nine rows
+no-row : (before o : ℕ) → 8 < before → may-follow before o ≡ false
+unfolding may-follow follow-table
+no-row before o h = split (leb o 12) (λ e. rw (e, past follow-table (13 * before + o) (omega arith))) (λ e. rw e)
+
+-- they are rows of the table
+abbrev rows : List ℕ → Bool
+rows [] = true
+rows (j ∷ js) = leb j 8 && rows js
+
+few : (js : List ℕ) (k : ℕ) → rows js ≡ true → OneOf js k → k ≤ 8
+few [] k t h = absurd h
+few (j ∷ []) k t e = let l = leb-true j 8 (and-left (leb j 8) true t) in omega arith
+few (j ∷ i ∷ js) k t (inl e) = let l = leb-true j 8 (and-left (leb j 8) (rows (i ∷ js)) t) in omega arith
+few (j ∷ i ∷ js) k t (inr h) = few (i ∷ js) k (and-right (leb j 8) (rows (i ∷ js)) t) h
+
+-- two tests say the same
+abbrev agree : Bool → Bool → Bool
+agree a b = cond a b (not b)
+
+agreed : (a b : Bool) → agree a b ≡ true → a ≡ b
+agreed true true e = refl
+agreed true false e = sym e
+agreed false true e = e
+agreed false false e = refl
+
+-- the items from lo up to hi stand behind these rows, and behind nothing else: computed over the table
+abbrev pub Stand : ℕ → ℕ → List ℕ → Type 0
+Stand lo hi js = rows js && all (λ k. all (λ i. agree (among js k) (may-follow k (lo + i))) (suc hi - lo)) 9 ≡ true
+
+module _ (lo hi : ℕ) (js : List ℕ) (t : Stand lo hi js) (k o : ℕ) (r : Range lo o hi) where
+  -- and so each of them, whatever stands before it
+  pub stands : among js k ≡ may-follow k o
+  stands = elim (decLt k 9) [
+    | yes h ↦
+        let a = all-at (λ k. all (λ i. agree (among js k) (may-follow k (lo + i))) (suc hi - lo)) 9 (and-right (rows js) _ t) k h in
+        let b = all-at (λ i. agree (among js k) (may-follow k (lo + i))) (suc hi - lo) a (o - lo) (omega arith) in
+        let e : lo + (o - lo) ≡ o = omega arith in
+        agreed (among js k) (may-follow k o) (rw e at b)
+    | no n ↦
+        let e = none-of js k (λ h. n (let l = few js k (and-left (rows js) _ t) h in omega arith)) in
+        sym e ∙ sym (no-row k o (omega arith))
+  ]
+
+  -- behind one of the rows
+  pub behind : OneOf js k → true ≡ may-follow k o
+  behind h = one-of js k h ∙ stands
+
+  -- and behind nothing else
+  pub elsewhere : ¬ OneOf js k → false ≡ may-follow k o
+  elsewhere n = none-of js k n ∙ stands
 
 -- BY CASES
 
 module _ (before o : ℕ) where
   -- no item has a code past 12
-  pub may-follow-unknown : 12 < o → may-follow before o ≡ false
+  pub may-follow-unknown : 12 < o → false ≡ may-follow before o
   unfolding may-follow
   may-follow-unknown h = rw (lt-leb o 12 h)
 
@@ -64,16 +126,3 @@ module _ (before o : ℕ) where
         ne-eqb o 9 (omega arith),
         ne-eqb o 10 (omega arith),
       )
-
-  -- nothing past the block's end stands before an item
-  pub after-most : before ≤ 8 → after before o ≤ 8
-  unfolding after
-  after-most h =
-      cond-most (eqb o 0) (cond-most (eqb before 0) (lit≤ tt) (cond-most (eqb before 2) (lit≤ tt) (lit≤ tt)))
-      (cond-most (leb o 4) h
-      (cond-most (eqb o 5) (cond-most (eqb before 1) (lit≤ tt) (lit≤ tt))
-      (cond-most (eqb o 6) (lit≤ tt)
-      (cond-most (eqb o 7) (lit≤ tt)
-      (cond-most (eqb o 8) (lit≤ tt)
-      (cond-most (eqb o 9) (lit≤ tt)
-      (cond-most (eqb o 10 && eqb before 7) (lit≤ tt) (lit≤ tt))))))))

@@ -13,7 +13,6 @@ use Rattle.mir.specs.Parts.{begins, item-ok}
 
 -- What is left of the walk before item i, with b blocks begun: the item is tested behind `before′`, and b′ blocks are begun then
 pub record Turn (fn : List ℕ) (n i b before b′ before′ : ℕ) : Type 0 where
-  pub few : before′ ≤ 8
   pub counted : b′ ≤ b + 1
   pub passes : item-ok fn i before′ ≡ true → items-from fn (n - i) i b before ≡ items-from fn (n - (i + 1)) (i + 1) b′ (after before′ (op fn i))
   pub fails : item-ok fn i before′ ≡ false → items-from fn (n - i) i b before ≡ false
@@ -38,10 +37,10 @@ module _ (fn : List ℕ) (n i b before : ℕ) where
   unfolding items-from begins item-ok
   turn-begun {b′} {before′} h e o p q =
       let z : eqb before 0 || eqb before 8 ≡ true = ⊎-elim (λ d. cc) (λ d. cc) o in
-      record { few = omega arith; counted = omega arith; passes = λ d. cc (more h, add-one i, add-one b); fails = λ d. cc (more h) }
+      record { counted = omega arith; passes = λ d. cc (more h, add-one i, add-one b); fails = λ d. cc (more h) }
 
   -- none begins there
-  pub turn-same : {b′ before′ : ℕ} → i < n → begins fn b i ≡ false → before ≤ 8 → b′ ≡ b → before′ ≡ before → Turn fn n i b before b′ before′
+  pub turn-same : {b′ before′ : ℕ} → i < n → begins fn b i ≡ false → b′ ≡ b → before′ ≡ before → Turn fn n i b before b′ before′
   unfolding items-from begins item-ok
-  turn-same {b′} {before′} h e l p q =
-      record { few = omega arith; counted = omega arith; passes = λ d. cc (more h, add-one i); fails = λ d. cc (more h) }
+  turn-same {b′} {before′} h e p q =
+      record { counted = omega arith; passes = λ d. cc (more h, add-one i); fails = λ d. cc (more h) }

@@ -39,30 +39,70 @@ pub const MOST_BLOCKS: usize = 256;
 pub const MOST_ITEMS: usize = 16384;
 
 // What stands before an item: 0 the entry part, 1 a place in it, 2 a block's begin, or a use or note, 3 a place, 4 a read,
-// 5 the place of a note, 6 a switch, or an arm's target, 7 an arm, 8 the block's end. A row for each, a column for each item.
-const FOLLOW: [[u32; 13]; 9] = [
-    [1, 0, 0, 0, 0, 0, 0, 0, 0, 0, 0, 0, 0],
-    [0, 1, 1, 1, 1, 1, 0, 0, 0, 0, 0, 0, 0],
-    [1, 0, 0, 0, 0, 0, 0, 0, 1, 0, 1, 1, 1],
-    [0, 1, 1, 1, 1, 1, 1, 0, 1, 0, 0, 0, 0],
-    [1, 0, 0, 0, 0, 0, 0, 0, 0, 0, 0, 0, 0],
-    [0, 1, 1, 1, 1, 0, 0, 1, 0, 0, 0, 0, 0],
-    [0, 0, 0, 0, 0, 0, 0, 0, 0, 1, 1, 0, 0],
-    [0, 0, 0, 0, 0, 0, 0, 0, 0, 0, 1, 0, 0],
-    [0, 0, 0, 0, 0, 0, 0, 0, 0, 0, 0, 0, 0],
-];
+// 5 the place of a note, 6 a switch, or an arm's target, 7 an arm, 8 the block's end.
 
-// May an item stand behind what stands before it?
-pub fn may_follow(before: u32, next: u32) -> bool
-    requires { ⌜ before ≤ 8 ⌝ }
+// A place begins in the entry part, where a use of a block or its ender may stand, and behind a read.
+fn place_follows(before: u32, next: u32) -> bool
+    requires { ⌜ next ≤ 4 ⌝ }
     ensures { λ r. ⌜ r ≡ may-follow before next ⌝ }
 {
-    if STOP < next {
-        return false;
+    match next {
+        ROOT => match before {
+            0 | 2 | 4 => true,
+            _ => false,
+        },
+        _ => match before {
+            1 | 3 | 5 => true,
+            _ => false,
+        },
     }
-    let b = wide(before);
-    let n = wide(next);
-    FOLLOW[b][n] == 1
+}
+
+// Only uses stand in the entry part; a note follows its own place, behind a read.
+fn action_follows(before: u32, next: u32) -> bool
+    requires { ⌜ Range 5 next 7 ⌝ }
+    ensures { λ r. ⌜ r ≡ may-follow before next ⌝ }
+{
+    match next {
+        USE => match before {
+            1 | 3 => true,
+            _ => false,
+        },
+        READ => before == 3,
+        _ => before == 5,
+    }
+}
+
+// A switch follows its place, or none. A target stands alone, ends an arm, or is the last of a switch.
+fn ender_follows(before: u32, next: u32) -> bool
+    requires { ⌜ Range 8 next 12 ⌝ }
+    ensures { λ r. ⌜ r ≡ may-follow before next ⌝ }
+{
+    match next {
+        SWITCH => match before {
+            2 | 3 => true,
+            _ => false,
+        },
+        ARM => before == 6,
+        TARGET => match before {
+            2 | 6 | 7 => true,
+            _ => false,
+        },
+        _ => before == 2,
+    }
+}
+
+// May an item stand behind what stands before it? By ranges of item codes: place items, actions, enders. No other code is an
+// item's.
+pub fn may_follow(before: u32, next: u32) -> bool
+    ensures { λ r. ⌜ r ≡ may-follow before next ⌝ }
+{
+    match next {
+        ROOT..=INDEX => place_follows(before, next),
+        USE..=NOTE => action_follows(before, next),
+        SWITCH..=STOP => ender_follows(before, next),
+        _ => false,
+    }
 }
 
 fn after_root(before: u32) -> u32
@@ -255,7 +295,6 @@ fn begins(fun: &[u32], b: usize, i: usize) -> bool
 fn item_ok(fun: &[u32], i: usize, before: u32) -> bool
     requires { ⌜ Laid (now fun) ⌝ }
     requires { ⌜ i < nitems (now fun) ⌝ }
-    requires { ⌜ before ≤ 8 ⌝ }
     ensures { λ r. ⌜ r ≡ item-ok (now (fun .entry)) i before ⌝ }
 {
     if !may_follow(before, op_of(fun, i)) {
