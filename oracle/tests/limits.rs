@@ -1,5 +1,6 @@
 //! The cases round each limit and those of the requests: which are refused, and with what. Those of
-//! lists of statements are in `statements.rs`, of crates in `crates.rs`, of merged types in `merge.rs`.
+//! lists of statements are in `statements.rs`, of crates in `crates.rs`, of merged types in `merge.rs`,
+//! of the order of items in `requests.rs`.
 
 use oracle::{case::Call, generate::limits::limits};
 
@@ -174,7 +175,7 @@ fn each_limit() {
     let mut cases = limits();
     // Those have tests of their own.
     let others = [Call::StatementItems, Call::CrateStatements, Call::MergeTypes];
-    cases.retain(|(_, case)| !others.contains(&case.call));
+    cases.retain(|(name, case)| !others.contains(&case.call) && !name.starts_with("F-7, "));
     for (name, case) in &cases {
         assert_eq!(case.refusal(), expected(name), "{name}");
     }

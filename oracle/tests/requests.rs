@@ -5,6 +5,7 @@ mod common;
 use common::*;
 use oracle::{
     function::Body,
+    generate::limits::limits,
     ghost_statements::GhostStatements,
     replay::Replay,
     types::{TyKind, Types},
@@ -145,4 +146,36 @@ fn replays(locals: &[u32], texts: &[&str]) {
         }
         lists = longer;
     }
+}
+
+/// The items that may stand behind each, as document 01's sentences on blocks and the entry have it.
+const MAY_FOLLOW: [(&str, &[u32]); 13] = [
+    ("the entry part's begin", &[0]),
+    ("a use in the entry part", &[0]),
+    ("a place in the entry part", &[1, 2, 3, 4, 5]),
+    ("a block's begin", &[0, 8, 10, 11, 12]),
+    ("a use", &[0, 8, 10, 11, 12]),
+    ("a note", &[0, 8, 10, 11, 12]),
+    ("a place", &[1, 2, 3, 4, 5, 6, 8]),
+    ("a read", &[0]),
+    ("the place of a note", &[1, 2, 3, 4, 7]),
+    ("a switch", &[9, 10]),
+    ("an arm's target", &[9, 10]),
+    ("an arm", &[10]),
+    ("a block's end", &[]),
+];
+
+#[test]
+fn f7_each_item_behind_each() {
+    let cases = limits();
+    let mut found = 0;
+    for (name, case) in &cases {
+        let Some(name) = name.strip_prefix("F-7, item ") else { continue };
+        let (code, before) = name.split_once(" behind ").expect("a code and what stands before");
+        let (_, may) = MAY_FOLLOW.iter().find(|(name, _)| *name == before).expect("a row");
+        let stands = may.contains(&code.parse().expect("a code"));
+        assert_eq!(case.refusal(), if stands { 0 } else { 2 }, "item {code} behind {before}");
+        found += 1;
+    }
+    assert_eq!(found, 13 * 21, "codes 0 to 18, 2^31 and 2^32 - 1");
 }

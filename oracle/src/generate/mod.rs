@@ -9,6 +9,7 @@ pub mod function;
 pub mod limits;
 pub mod merge;
 pub mod numbers;
+pub mod order;
 pub mod places;
 pub mod requests;
 pub mod rng;

@@ -6,6 +6,7 @@ use super::{
     limits::{root, whole, Named},
     merge::merges,
     numbers::numbers,
+    order::orders,
     statements::lists,
     types::TypeList,
 };
@@ -21,6 +22,7 @@ pub fn requests(cases: &mut Vec<Named>) {
     crates(cases);
     numbers(cases);
     merges(cases);
+    orders(cases);
 }
 
 const ARRAY: Ty = 1;
