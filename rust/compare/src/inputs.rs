@@ -131,6 +131,55 @@ pub fn items(count: usize) -> Input {
     Input::new(&types, &function)
 }
 
+/// 256 blocks of 64 items, of all kinds in no order: uses, reads with their notes, and each ender; places of
+/// up to five elements of any kind. It keeps the order of items, and no more: its locals are opaque.
+pub fn mixed() -> Input {
+    const EACH: usize = MAX_ITEMS / MAX_BLOCKS;
+    let mut rng = Rng::new(7);
+    let mut types = Types::new();
+    let int = types.opaque();
+    let mut function = Function::new(int, &[int; 3], &[]);
+    let labels = labels(&mut function, MAX_BLOCKS);
+    for (at, &label) in labels.iter().enumerate() {
+        let ender = if at + 1 == MAX_BLOCKS { 0 } else { rng.below(4) };
+        let mut left = EACH - if ender == 3 { 8 } else { 1 };
+        let mut block = Open::new();
+        while left > 0 {
+            let noted = left >= 4 && rng.chance(30);
+            let least = if noted { 4 } else { 2 };
+            let elems = rng.below(5).min(left - least);
+            // A single item is nothing.
+            let elems = elems + usize::from(left - least - elems == 1);
+            left -= least + elems;
+            let kinds = [Elem::Deref, Elem::Field(0), Elem::Downcast(0), Elem::Index];
+            let elems = (0..elems).map(|_| rng.pick(&kinds)).collect();
+            let place = Place { local: rng.below(4) as u32, elems };
+            block =
+                if noted { block.read(&Place::local(1)).note(&place) } else { block.used(&place) };
+        }
+        let to = |n: usize| labels[(at + n) % MAX_BLOCKS];
+        let block = match ender {
+            0 => block.ret(),
+            1 => block.stop(),
+            2 => block.goto(to(1)),
+            _ => (1..=3)
+                .fold(block.switch_constant(), |switch, n| switch.arm(0, to(n)))
+                .otherwise(to(4)),
+        };
+        function.write(label, block);
+    }
+    let input = Input::new(&types, &function);
+    assert_eq!(input.sizes(), (MAX_BLOCKS, MAX_ITEMS));
+    input
+}
+
+/// The same but for the arg of the last item, a return, for which the record is refused: all of it is
+/// tested, and nothing else is done.
+pub fn refused_last(mut input: Input) -> Input {
+    *input.function.last_mut().expect("a record has words") = 1;
+    input
+}
+
 /// Many rounds: a line of 100 join points that lead back and forth, each of which opens a field of its
 /// own. What one opens goes back through all before it, and only then the next in the line is visited:
 /// over 5,000 visits.
@@ -311,6 +360,7 @@ mod tests {
         env::Env,
         function::{Body, Statement, START_BLOCK},
         queue::WorkQueue,
+        refusal::Refusal,
     };
 
     use super::*;
@@ -331,6 +381,18 @@ mod tests {
     #[test]
     fn large_states() {
         assert_eq!(stored(&large()), (64, 20));
+    }
+
+    /// Records that pass refusal 2 as they are, and are refused with it for the arg of the last item.
+    #[test]
+    fn refused_for_the_last_item() {
+        for input in [items(16383), large(), mixed()] {
+            assert_eq!(input.sizes().1, MAX_ITEMS);
+            let types = oracle::types::Types::read(&input.types).unwrap();
+            assert!(Body::read(&types, &input.function).is_ok());
+            let Input { function, .. } = refused_last(input);
+            assert_eq!(Body::read(&types, &function).err(), Some(Refusal::BadFunction));
+        }
     }
 
     /// One open struct with all its fields open: 202 nodes with the return place.

@@ -7,7 +7,8 @@
 //! bench --only NAME --side library|transcription --calls N    for a profiler: these calls alone
 //! ```
 //!
-//! The second table is of lists of statements, whose items both sides write into a buffer that is just
+//! In the last rows of the first table a record is refused for its last item, so that its test is all that
+//! is timed. The second table is of lists of statements, whose items both sides write into a buffer that is just
 //! long enough; the third of crates, by the library alone: all functions in one call, beside a call for
 //! each; the fourth of two type records merged, by both sides, into an output that is just long enough.
 
@@ -15,8 +16,8 @@ use std::{hint::black_box, time::Instant};
 
 use compare::{
     inputs::{
-        assigns, device_model, items, large, many_types, match_chain, rounds, small,
-        types_to_merge, waiting, Input,
+        assigns, device_model, items, large, many_types, match_chain, mixed, refused_last, rounds,
+        small, types_to_merge, waiting, Input,
     },
     options::Options,
 };
@@ -56,10 +57,11 @@ struct Bench {
     name: &'static str,
     what: &'static str,
     calls: Vec<(Input, Lent)>,
+    refused: Option<u32>,
 }
 
 impl Bench {
-    fn new(name: &'static str, what: &'static str, inputs: Vec<Input>) -> Bench {
+    fn accepted(name: &'static str, what: &'static str, inputs: Vec<Input>) -> Bench {
         let calls = inputs.into_iter().map(|input| {
             let statements = hirvoksne::ghost_statements(&input.types, &input.function);
             let statements = statements.expect("accepted");
@@ -67,12 +69,19 @@ impl Bench {
             let (out, told) = (vec![0; statements.record().len()], vec![0; statements.len()]);
             (input, Lent { forms: store.clone(), whats: store, out, told })
         });
-        Bench { name, what, calls: calls.collect() }
+        Bench { name, what, calls: calls.collect(), refused: None }
+    }
+
+    /// Of records that refusal 2 speaks of; nothing is lent.
+    fn refused(name: &'static str, what: &'static str, inputs: Vec<Input>) -> Bench {
+        let lent = || Lent { forms: vec![], whats: vec![], out: vec![], told: vec![] };
+        let calls = inputs.into_iter().map(|input| (input, lent()));
+        Bench { name, what, calls: calls.collect(), refused: Some(2) }
     }
 
     fn run(&mut self, side: Side) {
         for (input, lent) in &mut self.calls {
-            black_box(side(black_box(input), lent)).expect("accepted");
+            assert_eq!(black_box(side(black_box(input), lent)).err(), self.refused);
         }
     }
 
@@ -204,14 +213,29 @@ const KINDS: [Kind; 10] = [
     ("items-16384", "uses in one block, in one round", || vec![items(16383)]),
 ];
 
+/// Function records that are refused for their last item: the time of the test of the record.
+const TESTS: [Kind; 3] = [
+    ("test-uses", "items-16384, refused with 2 at its last item", || {
+        vec![refused_last(items(16383))]
+    }),
+    ("test-large", "large, refused with 2 at its last item", || vec![refused_last(large())]),
+    ("test-mixed", "items of all kinds, refused with 2 at the last", || {
+        vec![refused_last(mixed())]
+    }),
+];
+
 fn main() {
     let mut options = Options::read();
     let only: String = options.value("--only", String::new());
     let side: String = options.value("--side", String::new());
     let (repeats, calls) = (options.value("--repeats", 51), options.value("--calls", 1));
     options.end();
-    let kinds = KINDS.into_iter().filter(|(name, _, _)| only.is_empty() || *name == only);
-    let mut benches = kinds.map(|(name, what, inputs)| Bench::new(name, what, inputs()));
+    let asked = |(name, _, _): &Kind| only.is_empty() || *name == only;
+    let kinds = KINDS.into_iter().filter(asked);
+    let kinds = kinds.map(|(name, what, inputs)| Bench::accepted(name, what, inputs()));
+    let tests = TESTS.into_iter().filter(asked);
+    let tests = tests.map(|(name, what, inputs)| Bench::refused(name, what, inputs()));
+    let mut benches = kinds.chain(tests);
     if let Some((_, side)) = SIDES.iter().find(|(name, _)| *name == side) {
         benches.for_each(|mut bench| (0..calls).for_each(|_| bench.run(*side)));
         return;
