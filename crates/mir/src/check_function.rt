@@ -41,7 +41,7 @@ pub const MOST_ITEMS: usize = 16384;
 // What stands before an item: 0 the entry part, 1 a place in it, 2 a block's begin, or a use or note, 3 a place, 4 a read,
 // 5 the place of a note, 6 a switch, or an arm's target, 7 an arm, 8 the block's end.
 
-// A place begins in the entry part, where a use of a block or its ender may stand, and behind a read.
+// A place begins in the entry part, at a block's begin, behind a use, a note or a read; its elements follow it.
 fn place_follows(before: u32, next: u32) -> bool
     requires { ⌜ next ≤ 4 ⌝ }
     ensures { λ r. ⌜ r ≡ may-follow before next ⌝ }
@@ -58,7 +58,7 @@ fn place_follows(before: u32, next: u32) -> bool
     }
 }
 
-// Only uses stand in the entry part; a note follows its own place, behind a read.
+// A use follows a place, in the entry part too; a read one of a block; a note the place behind a read.
 fn action_follows(before: u32, next: u32) -> bool
     requires { ⌜ Range 5 next 7 ⌝ }
     ensures { λ r. ⌜ r ≡ may-follow before next ⌝ }
@@ -73,7 +73,8 @@ fn action_follows(before: u32, next: u32) -> bool
     }
 }
 
-// A switch follows its place, or none. A target stands alone, ends an arm, or is the last of a switch.
+// A switch follows its place, or has none. A target stands alone, follows an arm, or is the last of a switch. A return or a
+// stop stands alone.
 fn ender_follows(before: u32, next: u32) -> bool
     requires { ⌜ Range 8 next 12 ⌝ }
     ensures { λ r. ⌜ r ≡ may-follow before next ⌝ }
