@@ -148,7 +148,7 @@ fn replays(locals: &[u32], texts: &[&str]) {
     }
 }
 
-/// The items that may stand behind each, as document 01's sentences on blocks and the entry have it.
+/// The items that may stand behind each, by document 01's sentences on blocks and the entry.
 const MAY_FOLLOW: [(&str, &[u32]); 13] = [
     ("the entry part's begin", &[0]),
     ("a use in the entry part", &[0]),

@@ -1,5 +1,5 @@
-//! The order of items (document 02, F-7): each item code, and codes that are none, behind all that can stand
-//! before an item. Where an item may stand, the rest makes a function of it.
+//! The order of items (document 02, F-7): each item code, and codes that are none, behind all that can
+//! stand before an item, with a rest that makes a function of it if the item is taken.
 
 use super::{
     draft::{Draft, Item},
@@ -8,7 +8,7 @@ use super::{
 };
 use crate::{
     function::{ARM, NOTE, READ, STOP, SWITCH, TARGET, USE},
-    place::{DOWNCAST, FIELD, ROOT},
+    place::{DEREF, DOWNCAST, FIELD, INDEX, ROOT},
     types::TyKind,
 };
 
@@ -59,7 +59,7 @@ pub fn orders(cases: &mut Vec<Named>) {
     }
 }
 
-/// 0 opaque, 1 a mutable reference, 2 a struct, 3 an array, 5 an enum.
+/// 0 opaque, 1 a mutable reference, 2 a struct, 3 an array, 5 an enum with the one variant 4.
 fn types() -> TypeList {
     let mut types = TypeList::default();
     types.push(TyKind::Opaque, vec![]);
@@ -74,10 +74,13 @@ fn types() -> TypeList {
 fn draft(before: Before, leading: &[u32], code: u32) -> Draft {
     // Local 1 is deref'd, 2 has a field, 3 a variant, 4 an element.
     let mut draft = Draft::new(vec![0, 1, 2, 5, 3], 4);
-    let local = if (1..=4).contains(&code) { code } else { 0 };
+    let local = if (DEREF..=INDEX).contains(&code) { code } else { 0 };
     let item = |&code: &u32| (code, if code == ROOT { local } else { 0 });
     // A place that is used doesn't end in a downcast.
-    let field: &[u32] = if code == DOWNCAST { &[FIELD] } else { &[] };
+    let field: &[u32] = match (code, before) {
+        (DOWNCAST, EntryPlace | Place | NotePlace) => &[FIELD],
+        _ => &[],
+    };
     let items = leading.iter().chain([&code]).chain(field).chain(rest(then(before, code)));
     let items: Vec<Item> = items.map(item).collect();
     match before {
@@ -96,7 +99,7 @@ fn then(before: Before, code: u32) -> Before {
         (ROOT, Entry) => EntryPlace,
         (ROOT, Begin) => Place,
         (ROOT, _) => NotePlace,
-        (1..=4, _) => before,
+        (DEREF..=INDEX, _) => before,
         (USE, EntryPlace) => Entry,
         (USE | NOTE, _) => Begin,
         (READ, _) => Read,
