@@ -1,6 +1,6 @@
 //! Functions to measure, each as its type record and its function record.
 
-use hirvoksne::{Assign, Elem, Function, Label, Open, Operand, Place, Rvalue, Type, Types};
+use hirvoksne::{Assign, Elem, Function, Label, Open, Operand, Place, Rvalue, Switch, Type, Types};
 use oracle::generate::{random, rng::Rng, Kind, Size};
 use oracle::{
     case::Call,
@@ -131,8 +131,8 @@ pub fn items(count: usize) -> Input {
     Input::new(&types, &function)
 }
 
-/// 256 blocks of 64 items, of all kinds in no order: uses, reads with their notes, and each ender; places of
-/// up to five elements of any kind. It keeps the order of items, and no more: its locals are opaque.
+/// 256 blocks of 64 items, of all kinds and mixed: uses, reads with their notes, and each ender; places
+/// of up to five elements of any kind. It passes refusal 2, and no more: its locals are opaque.
 pub fn mixed() -> Input {
     const EACH: usize = MAX_ITEMS / MAX_BLOCKS;
     let mut rng = Rng::new(7);
@@ -141,8 +141,8 @@ pub fn mixed() -> Input {
     let mut function = Function::new(int, &[int; 3], &[]);
     let labels = labels(&mut function, MAX_BLOCKS);
     for (at, &label) in labels.iter().enumerate() {
-        let ender = if at + 1 == MAX_BLOCKS { 0 } else { rng.below(4) };
-        let mut left = EACH - if ender == 3 { 8 } else { 1 };
+        let ender = if at + 1 == MAX_BLOCKS { 0 } else { rng.below(5) };
+        let mut left = EACH - [1, 1, 1, 8, 9][ender];
         let mut block = Open::new();
         while left > 0 {
             let noted = left >= 4 && rng.chance(30);
@@ -158,13 +158,13 @@ pub fn mixed() -> Input {
                 if noted { block.read(&Place::local(1)).note(&place) } else { block.used(&place) };
         }
         let to = |n: usize| labels[(at + n) % MAX_BLOCKS];
+        let arms = |switch: Switch| (1..=3).fold(switch, |switch, n| switch.arm(0, to(n)));
         let block = match ender {
             0 => block.ret(),
             1 => block.stop(),
             2 => block.goto(to(1)),
-            _ => (1..=3)
-                .fold(block.switch_constant(), |switch, n| switch.arm(0, to(n)))
-                .otherwise(to(4)),
+            3 => arms(block.switch_constant()).otherwise(to(4)),
+            _ => arms(block.switch(&Place::local(2))).otherwise(to(4)),
         };
         function.write(label, block);
     }

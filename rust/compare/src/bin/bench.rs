@@ -7,10 +7,11 @@
 //! bench --only NAME --side library|transcription --calls N    for a profiler: these calls alone
 //! ```
 //!
-//! In the last rows of the first table a record is refused for its last item, so that its test is all that
-//! is timed. The second table is of lists of statements, whose items both sides write into a buffer that is just
-//! long enough; the third of crates, by the library alone: all functions in one call, beside a call for
-//! each; the fourth of two type records merged, by both sides, into an output that is just long enough.
+//! In the last rows of the first table a record is refused for its last item, so that only the tests of
+//! the records are timed; nothing is lent. The second table is of lists of statements, whose items both
+//! sides write into a buffer that is just long enough; the third of crates, by the library alone: all
+//! functions in one call, beside a call for each; the fourth of two type records merged, by both sides,
+//! into an output that is just long enough.
 
 use std::{hint::black_box, time::Instant};
 
@@ -213,7 +214,7 @@ const KINDS: [Kind; 10] = [
     ("items-16384", "uses in one block, in one round", || vec![items(16383)]),
 ];
 
-/// Function records that are refused for their last item: the time of the test of the record.
+/// Function records that are refused for their last item: the time of the tests of the records.
 const TESTS: [Kind; 3] = [
     ("test-uses", "items-16384, refused with 2 at its last item", || {
         vec![refused_last(items(16383))]
