@@ -27,12 +27,12 @@ use Rattle.base.specs.Only.{Only, only_refused, only_done, only_then, only_bind,
 use Rattle.laws.specs.Places.{used_limits}
 use Rattle.laws.specs.Refusals.{projection_refusals, downcasting_refusals, subject_refusals}
 use Rattle.solver.specs.Laws.{Good}
-use Rattle.solver.specs.Refusals.{analyse_refused}
-use Rattle.graph.specs.Targets.{frame_edges}
+use Rattle.solver.proofs.Refusals.{analyse_refused}
+use Rattle.graph.proofs.Targets.{frame_edges}
 use Rattle.graph.specs.Used.{Allowed, stations_used, entry_used}
 use Rattle.graph.specs.Trees.{small_good}
 use Rattle.graph.specs.Through.{use_good}
-use Rattle.graph.specs.Lawful.{frame_bodies}
+use Rattle.graph.proofs.Lawful.{frame_bodies}
 use Rattle.demand.specs.States.{Ok, frame_lattice, folded_good, frame_collects}
 use Rattle.demand.specs.Whole.{Passed, facts, trees, entered}
 

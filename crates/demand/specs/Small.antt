@@ -24,7 +24,7 @@ use Rattle.laws.specs.Passed.{projection_tells}
 use Rattle.laws.specs.Lifted.{Dashed, collects_dashed, folds_at_ret_dashed}
 use Rattle.records.specs.Recorded.{mark_append}
 use Rattle.solver.specs.Lines.{each_marked}
-use Rattle.solver.specs.Whole as W
+use Rattle.solver.proofs.Whole as W
 use Rattle.graph.specs.Ranges.{owner}
 use Rattle.graph.specs.Used.{Allowed, stations_used, entry_used}
 use Rattle.graph.specs.Bridge.{player}

@@ -16,11 +16,13 @@ use Rattle.laws.specs.Flags.{flags1_law, flags1_changed}
 use Rattle.laws.specs.Measure.{measure_bound, measure_falls}
 use Rattle.laws.specs.Places.{used_limits}
 use Rattle.laws.specs.Sound.{types_sound}
-use Rattle.laws.specs.Projection.{projection_carry, projection_quiet, downcasting_cast}
+use Rattle.laws.specs.Projection.{projection_carry, downcasting_cast}
+use Rattle.laws.proofs.Projection.{projection_quiet}
 use Rattle.laws.specs.Passed.{projection_tells}
 use Rattle.laws.specs.Lifted.{collects_dashed}
 use Rattle.laws.specs.Depth.{joins_depths}
-use Rattle.laws.specs.Valid.{Valid, leaves_valid, projection_valid, downcasting_valid}
+use Rattle.laws.specs.Valid.{Valid, leaves_valid, downcasting_valid}
+use Rattle.laws.proofs.Valid.{projection_valid}
 use Rattle.laws.specs.Carried.{goto_above}
 use Rattle.model.specs.Collect.{returned_at}
 use Rattle.laws.specs.Returned.{folds_at_ret_carry}

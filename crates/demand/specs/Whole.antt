@@ -28,16 +28,18 @@ use Rattle.base.specs.Function.{FunctionFacts, function_facts}
 use Rattle.laws.specs.Valid.{Valid}
 use Rattle.records.specs.Recorded.{recorded_front, length_record}
 use Rattle.solver.specs.Laws.{Good, Lawful}
-use Rattle.solver.specs.Changes.{changes, changes_ceiling}
-use Rattle.solver.specs.Whole as W
+use Rattle.solver.specs.Changes.{changes}
+use Rattle.solver.proofs.Changes.{changes_ceiling}
+use Rattle.solver.proofs.Whole as W
 use Rattle.graph.specs.Ranges.{owner}
-use Rattle.graph.specs.Targets.{frame_edges}
+use Rattle.graph.proofs.Targets.{frame_edges}
 use Rattle.graph.specs.Used.{entry_used}
 use Rattle.graph.specs.Trees.{Trees}
 use Rattle.graph.specs.Bridge.{player}
-use Rattle.graph.specs.Lawful.{frame_bodies, frame_lawful, entry_enters}
-use Rattle.graph.specs.Demand.{passes_replayed}
-use Rattle.graph.specs.Told.{passes_numbered}
+use Rattle.graph.specs.Lawful.{entry_enters}
+use Rattle.graph.proofs.Lawful.{frame_bodies, frame_lawful}
+use Rattle.graph.proofs.Demand.{passes_replayed}
+use Rattle.graph.proofs.Told.{passes_numbered}
 use Rattle.demand.specs.States.{Ok, good_valid, frame_lattice, folded_good, frame_collects, frame_trees}
 
 -- refusals 1, 2 and 4 are passed

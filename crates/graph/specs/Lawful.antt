@@ -1,79 +1,30 @@
 -- The frame of an accepted function meets what the theorems on the passes ask, given what is asked of the trees.
 use Rattle.std.specs.Prelude.{◌≡◌, refl, true, List, [], ℕ}
-use Rattle.std.proofs.Common.{◌∙◌, ap}
+use Rattle.std.proofs.Common.{◌∙◌}
 use Rattle.std.proofs.Math.Path.{subst₂}
 use Rattle.model.specs.Answer.{done}
 use Rattle.model.specs.Tree.{Forest}
 use Rattle.model.specs.Place.{Spot, At, used_ok}
 use Rattle.model.specs.Walk.{projection}
 use Rattle.model.specs.Function.{nlocals}
-use Rattle.model.specs.Block.{places_ok, targets, returns, matched}
-use Rattle.model.specs.Frame.{Work, target, carries}
+use Rattle.model.specs.Block.{places_ok}
+use Rattle.model.specs.Frame.{carries}
 use Rattle.model.specs.Body.{enter_uses, frame}
-use Rattle.model.specs.Replay.{at_point, own}
-use Rattle.base.specs.Tests.{split}
 use Rattle.base.specs.Answer.{then_done}
-use Rattle.base.specs.Each.{Each, each_none, each_more, each_same}
+use Rattle.base.specs.Each.{Each, each_none, each_more}
 use Rattle.base.specs.Function.{FunctionFacts}
-use Rattle.solver.specs.Lists.{Has, has_map, each_has}
-use Rattle.solver.specs.Laws.{Good, Lattice, Bodies, Collects, Inside, Followed, Follows, Lawful}
+use Rattle.solver.specs.Lists.{Has}
+use Rattle.solver.specs.Laws.{Good}
 use Rattle.solver.specs.Demand.{carries_append}
-use Rattle.graph.specs.Ranges.{owner}
-use Rattle.graph.specs.Targets.{targets_once, frame_edges, returns_none}
-use Rattle.graph.specs.Points.{Ran, body_ran, ran_listed, frame_listed, rests_inside, frame_points}
-use Rattle.graph.specs.Used.{matched_used}
 use Rattle.graph.specs.Trees.{small_good, Trees}
-use Rattle.graph.specs.Through.{same_parts, follow_through, follow_fine, follow_tells, ran_gone}
-use Rattle.graph.specs.Departs.{Departs, exits_depart}
-use Rattle.graph.specs.Bridge.{player, carries_same}
+use Rattle.graph.specs.Through.{same_parts}
+use Rattle.graph.specs.Bridge.{carries_same}
 
 -- nothing stands in an empty list
-no_member : {P A : Type 0} {a : A} → Has a [] → P
+pub no_member : {P A : Type 0} {a : A} → Has a [] → P
 no_member = elim [ ]
 
 module _ {Γ fn : List ℕ} (A : FunctionFacts fn) (P : places_ok fn ≡ true) {Ok : Forest → Type 0} (T : Trees Γ fn Ok) where
-  -- each exit of a block's run, from the state behind its statements
-  ran_departs : {b : ℕ} {E : Forest} {w : Work Forest At} (R : Ran Γ fn b E w) → Good (frame Γ fn) Ok E
-      → Each (Departs Γ fn T (matched fn b) (targets fn b) R.end) w.exits
-  ran_departs {b} {E} {w} R g =
-      let G = ran_gone A P T (λ p. at_point p w.lines) R (λ i r. refl) g in
-      exits_depart Γ fn T (matched fn b) (λ q m. matched_used A P R.block m) (targets fn b) R.end (targets_once fn b) G.good R.leaves
-
-  -- THE BODIES
-  pub frame_bodies : Bodies (frame Γ fn) Ok
-  frame_bodies = record {
-    good = λ {b} {E} {w} g e. each_same (λ x d. d.1) (ran_departs (body_ran Γ fn e) g);
-    listed = λ {b} {E} {w} e. frame_listed Γ fn b E e;
-  }
-
-  -- THE REPLAY
-  pub frame_follows : Follows (frame Γ fn) Ok (owner fn) (player Γ fn)
-  frame_follows = record { follows = λ {b} {E} {w} {f} g e h. go f g (body_ran Γ fn e) h }
-    where
-      go : {b : ℕ} {E : Forest} {w : Work Forest At} (f : ℕ → List At) → Good (frame Γ fn) Ok E → Ran Γ fn b E w
-          → ((p : ℕ) → Inside (frame Γ fn) (owner fn) b p → f p ≡ at_point p w.lines) → Followed (player Γ fn) f b E w
-      go {b} {E} {w} f g R h =
-          let G = ran_gone A P T f R (λ i r. h i (rests_inside A Γ r)) g in
-          record {
-            end = G.end;
-            ends = follow_through Γ f G.follow;
-            departs = λ {x} k. split (returns fn b)
-                (λ e. no_member (rw (ran_listed Γ fn R ∙ returns_none A R.block e) at (has_map target k)))
-                (λ e. ap (own Γ fn x.item (targets fn b) (matched fn b)) (G.plain e) ∙ (each_has (ran_departs R g) k).0);
-            fine = (follow_fine Γ f G.follow, follow_tells Γ f G.follow);
-          }
-
-  -- all that is asked
-  pub frame_lawful : Lattice (frame Γ fn) Ok → Collects (frame Γ fn) Ok → Lawful (frame Γ fn) Ok (owner fn) (player Γ fn)
-  frame_lawful L C = record {
-    lattice = L;
-    bodies = frame_bodies;
-    edges = frame_edges A Γ;
-    points = frame_points A Γ;
-    collects = C;
-    follows = frame_follows;
-  }
-
   -- THE ENTRY: its statements lead to the state that its uses leave
   pub entry_enters : {qs : List Spot} → Each (λ q. used_ok (nlocals fn) q ≡ true) qs → (E : Forest) {D : Forest} {ts : List At} → Good (frame Γ fn) Ok E
       → enter_uses Γ qs E ≡ done (D, ts) → (carries (frame Γ fn) ts E ≡ done D) × Good (frame Γ fn) Ok D

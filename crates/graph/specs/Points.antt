@@ -5,7 +5,7 @@ use Rattle.std.proofs.Math.Path.{refl}
 use Rattle.std.proofs.Common.{ap, arith}
 use mathlib.Core.List.{List, [], ◌∷◌, ◌++◌, map}
 use Rattle.std.proofs.Math.Option.{Option, none, some}
-use borrow.Author.Tests.{ltb-true, ne_eqb}
+use borrow.Author.Tests.{ltb-true}
 use Rattle.model.specs.Answer.{done}
 use Rattle.model.specs.Tree.{Forest}
 use Rattle.model.specs.Place.{Spot, At}
@@ -16,14 +16,12 @@ use Rattle.model.specs.Frame.{Line, mark, Exit, Work, target}
 use Rattle.model.specs.Body.{use_at, pass_stations, Left, variants, choice, open_variant, match_targets, unopened, match_exits, exits_of, ret_lines, body, frame}
 use Rattle.base.specs.Tests.{split, clash}
 use Rattle.base.specs.Answer.{then_done}
-use Rattle.base.specs.Each.{Each, each_none, each_more, each_append, each_same}
+use Rattle.base.specs.Each.{Each, each_none, each_more, each_append}
 use Rattle.base.specs.Collected.{collect_each}
 use Rattle.base.specs.Function.{FunctionFacts}
 use Rattle.solver.specs.Lines.{each_mark}
-use Rattle.solver.specs.Laws.{Inside, Points}
-use Rattle.graph.specs.Ranges.{Holds, owner, holds_owner, entry_alone}
+use Rattle.graph.specs.Ranges.{Holds}
 use Rattle.graph.specs.Enders.{last_holds}
-use Rattle.graph.specs.Targets.{target_aims, targets_once}
 
 -- THE EXITS
 
@@ -127,21 +125,3 @@ module _ {fn : List ℕ} (A : FunctionFacts fn) (Γ : List ℕ) where
       (split (returns fn b)
       (λ e. rw (e, ret_lines) (each_mark (stop fn b - 1) _ (λ t. record { holds = last_holds A R.block; code = λ q. clash (cc) })))
       (λ e. rw (e, ret_lines) each_none)))
-
-  -- it is inside its block
-  pub rests_inside : {b i : ℕ} → Rests fn b i → Inside (frame Γ fn) (owner fn) b i
-  unfolding frame
-  rests_inside {b} {i} R = record {
-    owned = holds_owner A R.holds;
-    apart = λ x c h. ne_eqb i x (λ q. R.code (rw q (target_aims fn b h).code));
-  }
-
-  -- THE POINTS
-  pub frame_points : Points (frame Γ fn) (owner fn)
-  unfolding frame
-  frame_points = record {
-    owned = λ {b} h. holds_owner A (target_aims fn b h).holds;
-    once = λ b. targets_once fn b;
-    alone = λ b l. entry_alone A b l;
-    inside = λ {b} {E} {w} e. each_same (λ l r. rests_inside r) (ran_rests (body_ran Γ fn e));
-  }

@@ -1,19 +1,17 @@
 -- Within refusal 4's limits on places, all that is done with a state keeps the limit on levels: `depths E ≤ levels`.
-use Rattle.std.specs.Prelude.{◌≡◌, true, List, ℕ, ◌≤◌, eqb}
+use Rattle.std.specs.Prelude.{List, ℕ, ◌≤◌, eqb}
 use Rattle.std.proofs.Common.{arith}
 use Rattle.model.specs.Answer.{Answer, done}
 use Rattle.model.specs.Types.{shut, kind}
 use Rattle.model.specs.Tree.{node, Tree, leaf, Forest, type}
 use Rattle.model.specs.Typing.{depth, depths}
 use Rattle.model.specs.State.{levels}
-use Rattle.model.specs.Place.{steps, Unfold, Spot, Verb, Statement, usable, Fold, At, Place, downcast}
-use Rattle.model.specs.Walk.{act, enter, opening, carries_at, walk, nth, carry, folding, projection, cast_at, carry_at}
+use Rattle.model.specs.Place.{steps, Unfold, Spot, Verb, Fold, Place, downcast}
+use Rattle.model.specs.Walk.{act, enter, opening, walk, nth, folding, cast_at}
 use Rattle.base.specs.Tests.{clash}
-use Rattle.base.specs.Answer.{Good, good_bind, good_at, good_refused, good_done, good_cond, good_same}
-use Rattle.base.specs.Each.{each_more, Each, each_none}
+use Rattle.base.specs.Answer.{Good, good_refused, good_done, good_cond, good_same}
 use Rattle.laws.specs.Places.{Within}
 use Rattle.laws.specs.Depth.{enter_deep, Deep, opened_depth, nth_deep, walk_deep}
-use Rattle.laws.specs.Projection.{projection_folds}
 
 -- what opens few levels opens no more
 deep_more : {m n : ℕ} (f : Tree → Answer Tree) → m ≤ n → Deep m f → Deep n f
@@ -53,34 +51,14 @@ module _ (Γ : List ℕ) where
       deep_more (walk Γ f p) (omega arith) (walk_deep Γ 1 f (enter_deep Γ (downcast v)) p (λ e. omega arith))
 
   -- what a statement does at the place
-  act_levels : (w : Verb) (p : Place) → Within w p → Deep levels (walk Γ (act Γ w) p)
+  pub act_levels : (w : Verb) (p : Place) → Within w p → Deep levels (walk Γ (act Γ w) p)
   act_levels Fold p h = deep_more (walk Γ folding p) (omega arith) (walk_deep Γ 0 folding folding_deep p (λ e. clash (cc h.1)))
   act_levels Unfold p h = deep_more (walk Γ (opening Γ) p) (omega arith) (walk_deep Γ 1 (opening Γ) opening_deep p (λ e. omega arith))
 
-  -- a statement
-  pub carry_levels : (c : Statement) → Within c.verb c.place → Deep levels (carry Γ c)
-  unfolding carry
-  carry_levels c h = act_levels c.verb c.place h
-
   -- OF A STATE
-
-  -- a place used
-  pub projection_levels : (q : Spot) (E : Forest) → usable q.place ≡ true → steps q.place ≤ 63 → depths E ≤ levels
-      → Good (λ r. depths r.0 ≤ levels) (projection Γ q E)
-  projection_levels q E u h l =
-      let f = walk Γ folding q.place in
-      good_same (λ r e. good_at (nth_levels f (act_levels Fold q.place (omega arith, u)) q.local E l) e) (projection_folds Γ q E u)
 
   -- a match arm
   pub cast_at_levels : (q : Spot) (v : ℕ) (E : Forest) → steps q.place ≤ 63 → depths E ≤ levels
       → Good (λ D. depths D ≤ levels) (cast_at Γ q v E)
   unfolding cast_at
   cast_at_levels q v E h l = nth_levels (walk Γ (enter Γ (downcast v)) q.place) (cast_levels v q.place h) q.local E l
-
-  -- statements
-  pub carries_at_levels : {a : List At} → Each (λ c. Within c.what.verb c.what.place) a → (E : Forest) → depths E ≤ levels
-      → Good (λ D. depths D ≤ levels) (carries_at Γ a E)
-  unfolding carry_at
-  carries_at_levels each_none E l = good_done l
-  carries_at_levels (each_more {a = c} h hs) E l =
-      good_bind (nth_levels (carry Γ c.what) (carry_levels c.what h) c.number E l) (λ D k. carries_at_levels hs D k)

@@ -9,14 +9,10 @@ use Rattle.model.specs.Typing.{Fits}
 use Rattle.model.specs.State.{most}
 use Rattle.model.specs.Place.{Spot, Place, downcast, usable}
 use Rattle.model.specs.Walk.{walk, cast_at, carries_at, downcasting, folding, fitting, nth, projection, project_at}
-use Rattle.model.specs.Collect.{folded}
-use Rattle.model.specs.Replay.{Quiet}
-use Rattle.base.specs.Answer.{good_self, good_bind, good_at, good_same, Good, good_require, good_refused, good_done}
-use Rattle.laws.specs.Steps.{nth_law, swap_again, swap_new}
+use Rattle.base.specs.Answer.{good_self, good_bind, good_same, Good, good_require, good_refused, good_done}
 use Rattle.laws.specs.Hops.{later_run, first_run}
-use Rattle.laws.specs.Ends.{folding_again}
 use Rattle.laws.specs.Projected.{project_carry, project_folds}
-use Rattle.laws.specs.Walked.{enter_fit, nth_fit, walk_fit, folding_fit}
+use Rattle.laws.specs.Walked.{enter_fit, nth_fit, walk_fit}
 
 module _ (Γ : List ℕ) where
   -- a state that fits is as it was
@@ -50,21 +46,6 @@ module _ (Γ : List ℕ) where
     pub projection_carry : Good (λ r. carries_at Γ r.1 E ≡ done r.0) (projection Γ q E)
     unfolding projection
     projection_carry = good_bind (project_at_carry q.local q.place E h) (λ r e. good_bind (fitting_law r.0) (λ D k. good_done (cc)))
-
-    -- the place used is quiet afterwards
-    pub projection_quiet : Good (λ r. Quiet Γ q r.0) (projection Γ q E)
-    projection_quiet = good_same (λ r e.
-        let k = good_at (nth_law (λ x. folding_again Γ q.place x h) q.local E) e in
-        record {
-          walks = swap_again k.3 (walk Γ done q.place) k.2.walks;
-          unchanged = cc (swap_new k.3, k.2.same);
-          folded = cc (swap_new k.3, k.2.ends);
-        })
-        projection_folds
-
-    -- the types are kept
-    pub projection_fits : {ts : List ℕ} → Fits Γ ts E → Good (λ r. Fits Γ ts r.0) (projection Γ q E)
-    projection_fits f = good_same (λ r e. good_at (nth_fit Γ (walk_fit Γ (folding_fit Γ) q.place) q.local f) e) projection_folds
 
   -- the state after has 512 nodes at the most
   pub projection_small : (q : Spot) (E : Forest) → Good (λ r. sizes r.0 ≤ most) (projection Γ q E)

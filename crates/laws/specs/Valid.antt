@@ -4,17 +4,17 @@ use Rattle.std.proofs.Common.{arith}
 use Rattle.model.specs.Tree.{leaves, joins, sizes, Forest, flagss}
 use Rattle.model.specs.Typing.{depths, Fits}
 use Rattle.model.specs.State.{most, levels}
-use Rattle.model.specs.Place.{steps, usable, Spot}
-use Rattle.model.specs.Walk.{projection, downcasting}
+use Rattle.model.specs.Place.{steps, Spot}
+use Rattle.model.specs.Walk.{downcasting}
 use Rattle.model.specs.Measure.{measure}
-use Rattle.base.specs.Answer.{good_at, good_same, Good, good_and}
+use Rattle.base.specs.Answer.{good_at, good_same, Good}
 use Rattle.laws.specs.Typing.{fits_leaves, fits_join}
 use Rattle.laws.specs.Sizes.{sizes_leaves}
 use Rattle.laws.specs.Flags.{flags1_changed}
 use Rattle.laws.specs.Measure.{measure_falls}
 use Rattle.laws.specs.Depth.{depths_leaves, joins_depths}
-use Rattle.laws.specs.Projection.{cast_fits, projection_fits, projection_small, downcasting_cast}
-use Rattle.laws.specs.Levels.{cast_at_levels, projection_levels}
+use Rattle.laws.specs.Projection.{cast_fits, downcasting_cast}
+use Rattle.laws.specs.Levels.{cast_at_levels}
 
 -- a state of a run
 pub record Valid (Γ ts : List ℕ) (E : Forest) : Type 0 where
@@ -39,12 +39,6 @@ module _ {Γ ts : List ℕ} where
   pub joins_falls : {ss es : Forest} → Valid Γ ts ss → Valid Γ ts es → sizes (joins Γ false ss es) ≤ most
       → (flagss Γ false ss es).0 ≡ true → measure Γ (joins Γ false ss es) < measure Γ ss
   joins_falls a b h e = measure_falls a.fits b.fits a.small h ((flags1_changed false a.fits b.fits).0 e)
-
-  -- a place used
-  pub projection_valid : {E : Forest} (q : Spot) → Valid Γ ts E → usable q.place ≡ true → steps q.place ≤ 63
-      → Good (λ r. Valid Γ ts r.0) (projection Γ q E)
-  projection_valid {E} q a u h = good_same (λ r k. record { fits = k.0; small = k.1.0; shallow = k.1.1 })
-      (good_and (projection_fits Γ q E u a.fits) (good_and (projection_small Γ q E) (projection_levels Γ q E u h a.shallow)))
 
   -- and a match arm
   pub downcasting_valid : {E : Forest} (q : Spot) (v : ℕ) → Valid Γ ts E → steps q.place ≤ 63 → Good (Valid Γ ts) (downcasting Γ q v E)

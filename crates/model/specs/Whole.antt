@@ -1,6 +1,6 @@
 -- The whole-function call: its answer, the two store arrays and the statement buffer, to the last word, from the two records and
 -- the lengths of what is lent.
-use Rattle.std.specs.Prelude.{cond, List, [], ◌∷◌, ◌++◌, ℕ, ◌+◌, ◌*◌, length, replicate, leb}
+use Rattle.std.specs.Prelude.{cond, List, [], ◌∷◌, ◌++◌, ℕ, ◌*◌, length, replicate, leb}
 use Rattle.std.proofs.Math.Option.{Option, none, some}
 use Rattle.model.specs.Words.{collect_from}
 use Rattle.model.specs.Answer.{Answer, refused, done, ◌>>=◌, require}

@@ -1,5 +1,5 @@
 -- Function records that differ in their local types alone run alike: a block's own run, the frame, the shares of the join points.
-use Rattle.std.specs.Prelude.{◌≡◌, ℕ, ◌+◌, ◌-◌, ltb}
+use Rattle.std.specs.Prelude.{◌≡◌, ℕ, ◌-◌, ltb}
 use Rattle.std.proofs.Math.Path.{refl, fun_ext}
 use Rattle.std.proofs.Math.Bool.{true, false}
 use mathlib.Core.List.{List, [], ◌∷◌, ◌++◌}

@@ -10,7 +10,7 @@ use Prim.Native.Nat.{ℕ, ◌*◌, ◌<◌}
 use Rattle.std.proofs.lemmas.List.{length-map}
 use Rattle.model.specs.Words.{word, collect_from}
 use Rattle.model.specs.Answer.{Answer, refused, done}
-use Rattle.model.specs.Types.{ntypes, types_ok}
+use Rattle.model.specs.Types.{types_ok}
 use Rattle.model.specs.Tree.{Forest, leaves}
 use Rattle.model.specs.State.{State, local_ok, locals_ok, most}
 use Rattle.model.specs.Place.{At}
@@ -20,22 +20,19 @@ use Rattle.model.specs.Passes.{Found}
 use Rattle.model.specs.Body.{enter_uses}
 use Rattle.model.specs.Record.{entries, writable}
 use Rattle.model.specs.Whole.{passes, ghost_statements, with_buffer, share, joined, shares, accepted, denied, result, shorter, found, with_numbers, found_told, told_of, whole_told}
-use Rattle.model.specs.Merge.{merged, sums_ok, Links}
 use Rattle.base.specs.Tests.{split}
 use Rattle.base.specs.Answer.{split_answer, answer_map}
 use Rattle.base.specs.Below.{all_same}
 use Rattle.base.specs.Words.{map_word}
-use Rattle.base.specs.Typed.{types_typed, TypedLocals, locals_typed}
-use Rattle.base.specs.Function.{locals_pass}
+use Rattle.base.specs.Typed.{TypedLocals}
 use Rattle.solver.specs.Along.{kept_map, found_map}
-use Rattle.solver.specs.AlongWhole.{analyse_along}
-use Rattle.moved.specs.Moves.{Moves, Embeds, embeds_moves}
+use Rattle.solver.proofs.AlongWhole.{analyse_along}
+use Rattle.moved.specs.Moves.{Moves, Embeds}
 use Rattle.moved.specs.Retyped.{retypes, leaves_moved, encode_moved}
 use Rattle.moved.specs.Bodies.{enter_uses_moved, frame_along}
-use Rattle.moved.specs.Alike.{Alike, function_ok_alike, places_ok_alike, entry_uses_alike, join_points_alike}
+use Rattle.moved.specs.Alike.{Alike, places_ok_alike, entry_uses_alike, join_points_alike}
 use Rattle.moved.specs.AlikeRun.{frame_alike, shares_alike}
-use Rattle.moved.specs.Upwards.{alike_self, moved_alike, moved_locals}
-use Rattle.moved.specs.Passing.{kept_at, kept_same, first_embeds, second_embeds, merged_passes}
+use Rattle.moved.specs.Passing.{kept_at, kept_same}
 
 module _ {f : ℕ → ℕ} {Γ Δ : List ℕ} (h : Moves f Γ Δ) where
   -- THE STORE
@@ -140,7 +137,7 @@ module _ {f : ℕ → ℕ} {Γ Δ : List ℕ} (h : Moves f Γ Δ) where
 -- LOCAL TYPES
 
 -- moved ones pass exactly if they did
-locals_moved : (f : ℕ → ℕ) (Γ Δ : List ℕ) → Embeds f Γ Δ → (ls : List ℕ) → locals_ok Δ (map f ls) ≡ locals_ok Γ ls
+pub locals_moved : (f : ℕ → ℕ) (Γ Δ : List ℕ) → Embeds f Γ Δ → (ls : List ℕ) → locals_ok Δ (map f ls) ≡ locals_ok Γ ls
 unfolding locals_ok local_ok
 locals_moved f Γ Δ e ls =
     let each : (l : ℕ) → l < length ls → local_ok Δ (map f ls) l ≡ local_ok Γ ls l = λ l k.
@@ -148,29 +145,8 @@ locals_moved f Γ Δ e ls =
     rw (length-map ls f) (cc (all_same (local_ok Δ (map f ls)) (local_ok Γ ls) (length ls) each))
 
 -- those of the first are as they were
-kept_locals : {Γ : List ℕ} (Δ ls : List ℕ) → TypedLocals Γ ls → map (kept_at Γ Δ) ls ≡ ls
+pub kept_locals : {Γ : List ℕ} (Δ ls : List ℕ) → TypedLocals Γ ls → map (kept_at Γ Δ) ls ≡ ls
 kept_locals {Γ} Δ ls t =
     ext_get_or 0 (map (kept_at Γ Δ) ls) ls (length-map ls (kept_at Γ Δ)) (λ l k.
     let m : l < length ls = omega (arith, length-map ls (kept_at Γ Δ)) in
     map_word (kept_at Γ Δ) ls l m ∙ kept_same Γ Δ (word ls l) (t.below l m))
-
--- THE LAW
-
--- a function, and one alike whose local types are moved, over the two records
-function_links : {f : ℕ → ℕ} {Γ Δ : List ℕ} → types_ok Γ ≡ true → types_ok Δ ≡ true → Embeds f Γ Δ
-    → {fn gn : List ℕ} → Alike fn gn → local_types gn ≡ map f (local_types fn)
-    → (nforms nwhats nout ntold : ℕ) → whole_told Δ gn nforms nwhats nout ntold ≡ whole_told Γ fn nforms nwhats nout ntold
-function_links {f} {Γ} {Δ} tΓ tΔ e {fn} {gn} a m =
-    whole_moved (embeds_moves (types_typed Γ tΓ) e) a m tΓ tΔ (function_ok_alike a Δ Γ (ap (locals_ok Δ) m ∙ locals_moved f Γ Δ e (local_types fn)))
-
--- what two records that pass become links them, where the sums keep their limits
-pub merged_links : (Γ Δ : List ℕ) → types_ok Γ ≡ true → types_ok Δ ≡ true → sums_ok Γ Δ ≡ true → Links Γ Δ (merged Γ Δ)
-merged_links Γ Δ tΓ tΔ s =
-    let g = types_typed Γ tΓ in
-    let d = types_typed Δ tΔ in
-    let t = merged_passes g d s in
-    record {
-      second = λ fn. function_links tΔ t (second_embeds g d) (moved_alike (ntypes Γ) fn) (moved_locals (ntypes Γ) fn);
-      first = λ fn nforms nwhats nout ntold o.
-          function_links tΓ t (first_embeds g d) (alike_self fn) (sym (kept_locals Δ (local_types fn) (locals_typed Γ (local_types fn) (locals_pass Γ fn o)))) nforms nwhats nout ntold;
-    }

@@ -68,7 +68,7 @@ module _ {f : ℕ → ℕ} {Γ Δ : List ℕ} (g : Typed Γ) (e : Embeds f Γ Δ
     ]
 
     -- the children, each moved
-    kids_moved : kids Δ (f t) v ≡ map f (kids Γ t v)
+    pub kids_moved : kids Δ (f t) v ≡ map f (kids Γ t v)
     unfolding kids
     kids_moved =
         let l : owner Γ t v < ntypes Γ = owner_known g t v (kind_known Γ t o.not_opaque) o in
@@ -76,12 +76,3 @@ module _ {f : ℕ → ℕ} {Γ Δ : List ℕ} (g : Typed Γ) (e : Embeds f Γ Δ
         rw (owner_moved, first_moved, e.counts (owner Γ t v) l)
         (parts_moved Γ Δ f (owner Γ t v) (f (owner Γ t v)) (first Γ t) (count Γ (owner Γ t v) - first Γ t)
         (λ i a b. e.types (owner Γ t v) i l (omega arith) (behind i a)))
-
-  -- what trees see
-  pub embeds_moves : Moves f Γ Δ
-  embeds_moves = record {
-    kinds = e.kinds;
-    counts = λ t k. e.counts t (kind_known Γ t (λ z. omega arith));
-    children = kids_moved;
-    discriminants = discriminant_moved;
-  }

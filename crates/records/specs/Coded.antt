@@ -1,9 +1,9 @@
 -- A tree whose codes stand in two arrays, taken apart: one law for each step of code that reads it.
---     coded-in-forms, coded-in-whats    the place is in the arrays
---     coded-folded, coded-opened        the form there is 0, or is not
---     coded_none, coded-split           no tree is left, or one stands first
---     coded-moved                       the same words at another place
---     coded-unique                      one place holds one tree
+--     coded_in_forms, coded_in_whats    the place is in the arrays
+--     coded_folded, coded_opened        the form there is 0, or is not
+--     coded_none, coded_split           no tree is left, or one stands first
+--     coded_moved                       the same words at another place
+--     coded_unique                      one place holds one tree
 use Rattle.std.specs.Prelude.{◌≡◌, refl, ℕ, suc, ◌+◌, ◌≤◌, max, length, get_or, drop}
 use Rattle.std.proofs.Common.{sym, ◌∙◌, ap₂, arith, take-append-drop}
 use Rattle.std.proofs.Math.Path.{ap}

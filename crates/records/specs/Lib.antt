@@ -12,11 +12,11 @@ pub mod Window
 pub mod Codes
 pub mod Shape
 pub mod Opens
--- a record that holds a state is that state's record, and back: holds-encode, encode-holds
+-- a record that holds a state is that state's record, and back: holds_encode, encode_holds
 pub mod Holds
--- a state that fits is read back (decode-encode), and a record determines its state (holds-unique, encode-injective)
+-- a state that fits is read back (decode_encode), and a record determines its state (holds_unique, encode_injective)
 pub mod Decode
--- what is accepted has the record that was read: encode-decode
+-- what is accepted has the record that was read: encode_decode
 pub mod Encode
 -- a tree in the two arrays, as code reads it, node by node and part by part
 pub mod Coded
@@ -27,16 +27,16 @@ pub mod Written
 -- where code refuses: no tree stands there
 pub mod Absent
 -- STATEMENT RECORDS
--- their entries, as they stand in the words: entries-next, entries-written
+-- their entries, as they stand in the words: entries_next, entries_written
 pub mod Entries
--- what is written is read back: recorded-written, recorded-lent
+-- what is written is read back: recorded_written, recorded_lent
 pub mod Recorded
--- places as items, as the calls on states take them: spot-back, spot-items
+-- places as items, as the calls on states take them: spot_back, spot_items
 pub mod Spots
 -- TEXTS
--- the tokenizer: its pieces do not matter (words-pieces), what is spoilt stays spoilt, what it keeps are words
+-- the tokenizer: its pieces do not matter (words_pieces), what is spoilt stays spoilt, what it keeps are words
 pub mod Scanned
--- numbers as they are printed: their digits, and that they are read back (scan-number)
+-- numbers as they are printed: their digits, and that they are read back (scan_number)
 pub mod Digits
--- words printed with a blank behind each are read back: words-spaced
+-- words printed with a blank behind each are read back: words_spaced
 pub mod Texts

@@ -11,7 +11,7 @@ use Rattle.model.specs.Words.{sum}
 use Rattle.model.specs.Answer.{Answer, refused, done}
 use Rattle.model.specs.Rounds.{Round, idle, broke, turned, loop, run_rounds, lowest, put}
 use Rattle.model.specs.Frame.{Line, Exit, Work, Frame, Outcome, over, stop, into, say, meet, next, says, goto, leave, work, enter, visit, opening_exit, opening}
-use Rattle.model.specs.Passes.{absorb, Store, empty, keep, unwait, popped, merge, arrive, take_in, round, weigh, load, solve, infer, Found}
+use Rattle.model.specs.Passes.{absorb, Store, keep, popped, merge, weigh, load, Found}
 use Rattle.base.specs.Tests.{split, split_option}
 use Rattle.base.specs.Answer.{split_answer, answer_map}
 use Rattle.base.specs.Below.{sum_same}
@@ -78,7 +78,7 @@ unfolding put
 put_along k f b a x = split (eqb b x) (λ e. cc) (λ e. cc)
 
 -- a state is stored
-keep_along : {Env Env' : Type 0} (h : Env → Env') (b : ℕ) (E : Env) (s : Store Env) → keep b (h E) (store_map h s) ≡ store_map h (keep b E s)
+pub keep_along : {Env Env' : Type 0} (h : Env → Env') (b : ℕ) (E : Env) (s : Store Env) → keep b (h E) (store_map h s) ≡ store_map h (keep b E s)
 keep_along h b E s = λ i. record { kept = λ c. put_along (Option.map h) s.kept b (some E) c i; waits = put s.waits b true }
 
 -- rounds that go along: so do their loops
@@ -90,7 +90,7 @@ module _ {S T : Type 0} (k : S → T) (round : S → Round S) (round' : T → Ro
   loop_along (suc n) s = rounds (round s) (λ e. cc (same s)) (λ r e. cc (same s)) (λ t e. cc (same s, loop_along n t))
 
   -- with the same fuel
-  run_along : (load : S → ℕ) (load' : T → ℕ) → ((s : S) → load' (k s) ≡ load s)
+  pub run_along : (load : S → ℕ) (load' : T → ℕ) → ((s : S) → load' (k s) ≡ load s)
       → (s : S) → run_rounds round' load' (k s) ≡ answer_map k (run_rounds round load s)
   unfolding run_rounds
   run_along load load' e s = ap (λ (n : ℕ). loop round' (suc n) (k s)) (e s) ∙ loop_along (suc (load s)) s
@@ -182,7 +182,7 @@ module _ {Env Env' Stmt : Type 0} {F : Frame Env Stmt} {G : Frame Env' Stmt} {h 
   -- THE FIRST PASS
 
   -- an arrival at a stored state
-  merge_along : (x : Exit Env) (S : Env) (s : Store Env) → merge G (exit_map h x) (h S) (store_map h s) ≡ answer_map (store_map h) (merge F x S s)
+  pub merge_along : (x : Exit Env) (S : Env) (s : Store Env) → merge G (exit_map h x) (h S) (store_map h s) ≡ answer_map (store_map h) (merge F x S s)
   unfolding merge
   merge_along x S s =
       let E = x.state in
@@ -193,26 +193,6 @@ module _ {Env Env' Stmt : Type 0} {F : Frame Env Stmt} {G : Frame Env' Stmt} {h 
       (λ d. cc (A.joins S E, A.rooms J, A.changes S E)))
       (λ e. cc (A.joins S E, A.rooms J))
 
-  -- any arrival
-  arrive_along : (x : Exit Env) (s : Store Env) → arrive G (exit_map h x) (store_map h s) ≡ answer_map (store_map h) (arrive F x s)
-  unfolding arrive
-  arrive_along x s = split_option (s.kept x.block)
-      (λ e. cc (keep_along h x.block x.state s))
-      (λ S e. cc (merge_along x S s))
-
-  -- an outcome taken in
-  take_in_along : (o : Outcome Env Stmt) (s : Store Env) → take_in G (outcome_map h o) (store_map h s) ≡ answer_map (store_map h) (take_in F o s)
-  unfolding take_in
-  take_in_along o s = absorb_along h (store_map h) (λ l s. s) (λ l s. s) (λ l s. refl) (arrive F) (arrive G) arrive_along o s
-
-  -- one round
-  round_along : (s : Store Env) → round G (store_map h s) ≡ round_map (store_map h) (round F s)
-  unfolding round
-  round_along s = popped_along (store_map h) s.waits s.kept
-      (λ b S. take_in F (visit F b S) (unwait b s))
-      (λ b S. take_in G (visit G b S) (unwait b (store_map h s)))
-      (λ b S. ap (λ (o : Outcome Env' Stmt). take_in G o (unwait b (store_map h s))) (visit_along b S) ∙ take_in_along (visit F b S) (unwait b s))
-
   -- what a block weighs
   weigh_along : (o : Option Env) (w : Bool) → weigh G (Option.map h o) w ≡ weigh F o w
   unfolding weigh
@@ -220,20 +200,8 @@ module _ {Env Env' Stmt : Type 0} {F : Frame Env Stmt} {G : Frame Env' Stmt} {h 
   weigh_along (some S) w = cc (A.costs S)
 
   -- the load
-  load_along : (s : Store Env) → load G (store_map h s) ≡ load F s
+  pub load_along : (s : Store Env) → load G (store_map h s) ≡ load F s
   unfolding load
   load_along s = ap (sum (λ b. weigh G (kept_map h s.kept b) (s.waits b))) A.blocks
       ∙ sum_same (λ b. weigh G (kept_map h s.kept b) (s.waits b)) (λ b. weigh F (s.kept b) (s.waits b)) F.blocks
       (λ b l. weigh_along (s.kept b) (s.waits b))
-
-  -- the rounds
-  solve_along : (s : Store Env) → solve G (store_map h s) ≡ answer_map (store_map h) (solve F s)
-  unfolding solve
-  solve_along s = run_along (store_map h) (round F) (round G) round_along (load F) (load G) load_along s
-
-  -- the first pass
-  pub infer_along : (E : Env) → infer G (h E) ≡ answer_map (store_map h) (infer F E)
-  unfolding infer
-  infer_along E = split_answer (take_in F (opening F E) empty)
-      (λ r e. cc (opening_along E, take_in_along (opening F E) empty))
-      (λ s e. cc (opening_along E, take_in_along (opening F E) empty, solve_along s))

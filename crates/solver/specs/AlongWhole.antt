@@ -8,10 +8,10 @@ use Rattle.std.proofs.Math.Option.{Option}
 use Rattle.model.specs.Answer.{Answer, done, ◌>>=◌}
 use Rattle.model.specs.Rounds.{Round, idle, broke, turned, left, run_rounds}
 use Rattle.model.specs.Frame.{Exit, Frame, Outcome, visit, opening, carries, mark}
-use Rattle.model.specs.Passes.{infer, Log, hear, arrived, reconcile, arrive_at, take_down, visiting, round_two, unvisited, fresh_log, elaborate, analyse}
+use Rattle.model.specs.Passes.{Log, hear, arrived, reconcile, arrive_at, take_down, visiting, round_two, unvisited, fresh_log, elaborate}
 use Rattle.base.specs.Tests.{split_option}
 use Rattle.base.specs.Answer.{split_answer, bind_done, answer_map}
-use Rattle.solver.specs.Along.{round_map, exit_map, kept_map, outcome_map, found_map, Along, absorb_along, visit_along, opening_along, popped_along, infer_along}
+use Rattle.solver.specs.Along.{round_map, exit_map, kept_map, outcome_map, Along, absorb_along, visit_along, opening_along, popped_along}
 
 -- a round whose state stays as it is
 round_same : {S : Type 0} (r : Round S) → round_map (λ s. s) r ≡ r
@@ -74,15 +74,6 @@ module _ {Env Env' Stmt : Type 0} {F : Frame Env Stmt} {G : Frame Env' Stmt} {h 
         (ap₂ run_rounds (fun_ext round_two_along) (fun_ext unvisited_along))
 
   -- THE WHOLE
-
-  -- THEOREM: one analysis leads to the other
-  pub analyse_along : (ts : List Stmt) (E : Env) → analyse G ts (h E) ≡ answer_map (found_map h) (analyse F ts E)
-  unfolding analyse
-  analyse_along ts E = split_answer (infer F E)
-      (λ r e. cc (infer_along A E))
-      (λ s e.
-      let q = elaborate_along s.kept ts E in
-      split_answer (elaborate F s.kept ts E) (λ r d. cc (infer_along A E)) (λ g d. cc (infer_along A E)))
 
   -- statements carried out in order
   pub carries_along : (ts : List Stmt) (E : Env) → carries G ts (h E) ≡ answer_map h (carries F ts E)

@@ -4,14 +4,13 @@ use Rattle.std.specs.Prelude.{◌≡◌, refl, true, false, List, [], ◌∷◌,
 use Rattle.std.proofs.Common.{ap}
 use Rattle.std.proofs.Math.Option.{Option, some}
 use Rattle.model.specs.Answer.{done}
-use Rattle.model.specs.Frame.{Exit, Work, Frame, target, visit, opening_exit, opening}
+use Rattle.model.specs.Frame.{Exit, Work, Frame, target}
 use Rattle.base.specs.Tests.{clash}
 use Rattle.solver.specs.Lists.{Has, here, later, has_map, elem_has, Once, once_head, once_tail}
 use Rattle.solver.specs.Laws.{Bodies, Edges, Points}
-use Rattle.solver.specs.Outcome.{Calm, calm_inner, Through, goto_calm_on, work_calm}
 use Rattle.solver.specs.Arrivals.{exit_listed}
-use Rattle.solver.specs.Solution.{Covered, Solution}
-use Rattle.solver.specs.Fuel.{root_join, root_start, Rooted, rooted, rooted_on, visit_step}
+use Rattle.solver.specs.Solution.{Solution}
+use Rattle.solver.specs.Fuel.{root_join, root_start, Rooted, rooted, rooted_on}
 
 -- E₀: the state that the entry's uses leave
 module _ {Env Stmt : Type 0} (F : Frame Env Stmt) (kept : ℕ → Option Env) (E₀ : Env) where
@@ -27,12 +26,16 @@ pub exit_items : {Env : Type 0} (xs : List (Exit Env)) → map (λ x. x.item) xs
 exit_items [] = refl
 exit_items (x ∷ xs) = ap (λ l. x.item ∷ l) (exit_items xs)
 
+-- in a list whose first parts differ, the first part decides: stated so that the list is recursed on
+has_once_by : {Env : Type 0} {x y : Exit Env} {l : List (Exit Env)} → Once (map (λ x. x.item) l) → Has x l → Has y l → x.item ≡ y.item → x ≡ y
+has_once_by o here here q = refl
+has_once_by {x} {y} o here (later k) q = clash (cc (once_head o, elem_has (has_map (λ x. x.item) k)))
+has_once_by {x} {y} o (later h) here q = clash (cc (once_head o, elem_has (has_map (λ x. x.item) h)))
+has_once_by o (later h) (later k) q = has_once_by (once_tail o) h k q
+
 -- in a list whose first parts differ, the first part decides
 pub has_once : {Env : Type 0} {l : List (Exit Env)} → Once (map (λ x. x.item) l) → {x y : Exit Env} → Has x l → Has y l → x.item ≡ y.item → x ≡ y
-has_once o here here q = refl
-has_once o {x} {y} here (later k) q = clash (cc (once_head o, elem_has (has_map (λ x. x.item) k)))
-has_once o {x} {y} (later h) here q = clash (cc (once_head o, elem_has (has_map (λ x. x.item) h)))
-has_once o (later h) (later k) q = has_once (once_tail o) h k q
+has_once o h k q = has_once_by o h k q
 
 module _ {Env Stmt : Type 0} (F : Frame Env Stmt) {Ok : Env → Type 0} (B : Bodies F Ok) (G : Edges F) {owner : ℕ → ℕ} (N : Points F owner)
     (kept : ℕ → Option Env) (E₀ : Env) where
@@ -62,21 +65,3 @@ module _ {Env Stmt : Type 0} (F : Frame Env Stmt) {Ok : Env → Type 0} (B : Bod
     at_rooted (at_join {b} {S} j p) = rooted (root_join j (X.placed b S p).below)
     at_rooted (at_start j p q) = rw p (rooted root_start)
     at_rooted (at_on A e h k) = rooted_on (at_rooted A) (exit_listed B e h) k
-
-    -- where a visit is calm, the block's own run is accepted and its jumps are calm
-    calm_through : {b : ℕ} {E : Env} → Rooted F b → Calm (Covered F Ok kept) (visit F b E) → Through F (Covered F Ok kept) (visit F) (F.body b E)
-    calm_through {b} {E} R k = work_calm F (visit F) (F.body b E) (calm_inner (rw (visit_step F B G E R) at k))
-
-    -- a visit from it is not refused, and each arrival is covered
-    pub at_calm : {b : ℕ} {E : Env} → At F kept E₀ b E → Calm (Covered F Ok kept) (visit F b E)
-    unfolding opening
-    at_calm (at_join {b} {S} j p) = X.visits b S p
-    at_calm (at_start j p q) = rw (p, q) (goto_calm_on F (visit F) (opening_exit F E₀) X.opens (rw p at j))
-    at_calm (at_on {b} {i} {c} {D} {E} {w} A e h k) =
-        let T = calm_through (at_rooted A) (at_calm A) in
-        let q : w ≡ T.worked = cc T.given in
-        goto_calm_on F (visit F) (record { item = i; block = c; state = E }) (T.jumps (rw q at h)) k
-
-    -- the block's own run, from its canonical state
-    pub at_through : {b : ℕ} {E : Env} → At F kept E₀ b E → Through F (Covered F Ok kept) (visit F) (F.body b E)
-    at_through A = calm_through (at_rooted A) (at_calm A)

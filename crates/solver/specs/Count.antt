@@ -62,6 +62,7 @@ named_none x (t ∷ ts) f = split (eqb x t.1)
 -- once, if its item is the only one and items differ
 pub named_one : (x i : ℕ) (ts : List (ℕ × ℕ)) → Once (map (λ t. t.0) ts) → Has (i, x) ts → ((j : ℕ) → Has (j, x) ts → j ≡ i) → named x ts ≡ 1
 unfolding named
+named_one x i [] o h f = elim h [ ]
 named_one x i (t ∷ ts) o here f = rw (eqb_same x) (omega (
   arith,
   named_none x ts

@@ -1,6 +1,6 @@
 -- Demand 3: the replay of the second pass's record meets no refusal, comes to each block's canonical state, and so on.
 use Rattle.std.specs.Prelude.{◌≡◌, true, false, eqb}
-use Rattle.std.proofs.Math.Path.{refl, ap, subst}
+use Rattle.std.proofs.Math.Path.{refl, ap}
 use Rattle.std.proofs.Common.{sym, ◌∙◌}
 use mathlib.Core.List.{List, [], ◌∷◌, ◌++◌, map, append-nil}
 use Rattle.std.proofs.Math.Option.{Option, some}
@@ -13,16 +13,16 @@ use Rattle.model.specs.Replay.{at_point, find}
 use Rattle.base.specs.Tests.{split, split_option, clash, eqb_same, eqb_sym}
 use Rattle.base.specs.Answer.{split_answer}
 use Rattle.base.specs.Each.{Each, each_none, each_more, each_append, each_same}
-use Rattle.solver.specs.Lists.{Has, here, later, has_map, has_image, each_has, each_of, elem_has, each_apart, Once, once_head, once_tail}
+use Rattle.solver.specs.Lists.{Has, here, later, has_map, each_has, each_of, elem_has, each_apart, Once, once_head, once_tail}
 use Rattle.solver.specs.Lines.{at_append, at_none, at_mark, at_mark_other, each_mark}
-use Rattle.solver.specs.Player.{Player, script, jump, play, Path, path_end, path_on}
+use Rattle.solver.specs.Player.{Player, script, jump, play}
 use Rattle.solver.specs.Laws.{Good, Bodies, Collects, Edges, Inside, Points, Follows}
-use Rattle.solver.specs.Outcome.{Calm, stop_calm, calm_inner, calm_next, calm_says, goto_calm_join, goto_calm_on}
+use Rattle.solver.specs.Outcome.{Calm, stop_calm, calm_inner, calm_next, calm_says, goto_calm_on}
 use Rattle.solver.specs.Arrivals.{exit_listed}
 use Rattle.solver.specs.Solution.{Covered, Solution}
 use Rattle.solver.specs.Told.{gives, tell, stored_visit, story}
 use Rattle.solver.specs.Elaborate.{Elaborated}
-use Rattle.solver.specs.Canon.{At, at_join, at_start, at_on, exits_once, at_through}
+use Rattle.solver.specs.Canon.{At, at_join, at_start, at_on, exits_once}
 use Rattle.solver.specs.Count.{part, hop, hops, tell_next, tell_says}
 use Rattle.solver.specs.Story.{opening_visit, opening_meet, record_at}
 
@@ -45,7 +45,7 @@ module _ {Env Stmt : Type 0} (F : Frame Env Stmt) where
       (λ M d. let k = carries_append ts us M {E = E} (cc) in cc)
 
   -- a target that is listed is found by its item, if items differ
-  has_find : {i c : ℕ} {ts : List (ℕ × ℕ)} → Once (map (λ t. t.0) ts) → Has (i, c) ts → find i ts ≡ some c
+  pub has_find : {i c : ℕ} {ts : List (ℕ × ℕ)} → Once (map (λ t. t.0) ts) → Has (i, c) ts → find i ts ≡ some c
   unfolding find
   has_find {i} o here = cc (eqb_same i)
   has_find {i} {c} o (later {b = t} h) = split (eqb t.0 i)
@@ -76,7 +76,7 @@ module _ {Env Stmt : Type 0} (F : Frame Env Stmt) where
     hops_none p (each_more {a = y} {l = ys} e es) = at_append p (hop F kept y) (hops F kept ys) ∙ cc (hop_at p y e, hops_none p es)
 
     -- at a jump's item there is what is recorded at that jump
-    hops_one : {ys : List (Exit Env)} {y : Exit Env} → Once (map (λ x. x.item) ys) → Has y ys → at_point y.item (hops F kept ys) ≡ at_point y.item (hop F kept y)
+    hops_one : {y : Exit Env} {ys : List (Exit Env)} → Once (map (λ x. x.item) ys) → Has y ys → at_point y.item (hops F kept ys) ≡ at_point y.item (hop F kept y)
     unfolding hops
     hops_one {y} o (here {l = ys}) = at_append y.item (hop F kept y) (hops F kept ys)
         ∙ ap (λ l. at_point y.item (hop F kept y) ++ l) (hops_none y.item (each_apart (λ (x : Exit Env). x.item) y.item {l = ys} (once_head o)))
@@ -138,28 +138,11 @@ module _ {Env Stmt : Type 0} (F : Frame Env Stmt) {Ok : Env → Type 0} (B : Bod
     (own : (b : ℕ) (E : Env) (w : Work Env Stmt) → b < F.blocks → F.body b E ≡ done w → Each Q w.lines)
     (collected : (i : ℕ) (E S : Env) (ts : List Stmt) → F.collect E S ≡ done ts → Each Q (mark i ts)) where
   -- at a jump
-  gives_each : (i : ℕ) (y : Exit Env) → Each Q (mark i (gives F kept y))
+  pub gives_each : (i : ℕ) (y : Exit Env) → Each Q (mark i (gives F kept y))
   unfolding gives mark
   gives_each i y = split_option (kept y.block)
       (λ e. rw (e, gives) each_none)
       (λ S e. split_answer (F.collect y.state S) (λ r d. rw (e, gives, d) each_none) (λ ts d. rw (e, gives, d) (collected i y.state S ts d)))
-
-  -- in a visit
-  visits_each : {P : Exit Env → Type 0} (b : ℕ) (E : Env) → b < F.blocks → Calm P (visit F b E) → Each Q (tell F kept (visit F b E))
-  visits_each {P} b E m = visit_each F B G kept Q own (λ c y l h. gives_each y.item y) P b E m
-
-  module _ (ts : List Stmt) {E₀ : Env} (S : Solution F Ok E₀ kept) (first : Each Q (mark F.entry ts)) where
-    -- in the opening
-    opening_each : Each Q (tell F kept (opening F E₀))
-    unfolding opening goto tell
-    opening_each = split (F.join_point 0)
-        (λ e. rw (e, goto) (each_append (gives_each F.entry (opening_exit F E₀)) each_none))
-        (λ e. rw (e, goto) (visits_each 0 E₀ G.some_block (goto_calm_on F (visit F) (opening_exit F E₀) S.opens e)))
-
-    pub story_each : {bs : List ℕ} → Each (λ b. (T : Env) × (kept b ≡ some T)) bs → Each Q (story F kept ts E₀ bs)
-    unfolding story stored_visit
-    story_each each_none = each_append first opening_each
-    story_each (each_more {a = b} s ss) = each_append (story_each ss) (rw (s.1, stored_visit) (visits_each b s.0 (S.placed b s.0 s.1).below (S.visits b s.0 s.1)))
 
 module _ {Env Stmt : Type 0} (F : Frame Env Stmt) {Ok : Env → Type 0} (B : Bodies F Ok) (G : Edges F) {owner : ℕ → ℕ} (N : Points F owner)
     (kept : ℕ → Option Env) where
@@ -213,7 +196,7 @@ module _ {Env Stmt : Type 0} (F : Frame Env Stmt) {Ok : Env → Type 0} (B : Bod
   entry_script = rw K.recorded (entry_story (each_of g.visited (λ b h. K.only b (elem_has h))))
 
   -- what is recorded at a jump leads to the canonical state of the block it goes to
-  hop_lands : (y : Exit Env) → (F.join_point y.block ≡ true → Covered F Ok kept y)
+  pub hop_lands : (y : Exit Env) → (F.join_point y.block ≡ true → Covered F Ok kept y)
       → (F.join_point y.block ≡ false → At F kept E₀ y.block y.state)
       → Lands F kept E₀ (at_point y.item (hop F kept y)) y.state y.block
   unfolding hop gives at_point carries
@@ -229,17 +212,8 @@ module _ {Env Stmt : Type 0} (F : Frame Env Stmt) {Ok : Env → Type 0} (B : Bod
       })
       (λ e. record { state = y.state; carried = rw (e, hop) refl; canon = h e })
 
-  -- the entry
-  pub entry_lands : {E : Env} → carries F ts E ≡ done E₀ → Lands F kept E₀ (script F R g.lines F.entry) E 0
-  unfolding opening
-  entry_lands {E} e =
-      let y = opening_exit F E₀ in
-      let us = at_point F.entry (hop F kept y) in
-      let l = hop_lands y (λ j. goto_calm_join F (visit F) y S.opens j) (λ j. at_start j refl refl) in
-      record { state = l.state; carried = rw entry_script (carries_append F ts us E e ∙ l.carried); canon = l.canon }
-
   -- a canonical state is good
-  at_good : {b : ℕ} {E : Env} → At F kept E₀ b E → Good F Ok E
+  pub at_good : {b : ℕ} {E : Env} → At F kept E₀ b E → Good F Ok E
   at_good (at_join {b} {S = T} j p) = S.fine b T p
   at_good (at_start j p q) = rw q good
   at_good (at_on A e h k) = each_has (B.good (at_good A) e) h
@@ -253,14 +227,14 @@ module _ {Env Stmt : Type 0} (F : Frame Env Stmt) {Ok : Env → Type 0} (B : Bod
         sym (at_part owner p g.lines) ∙ rw (o, q) (at_append p w.lines (hops F kept w.exits))
 
     -- at a point inside the block, the run's own alone
-    script_inside : (p : ℕ) → Inside F owner b p → script F R g.lines p ≡ at_point p w.lines
+    pub script_inside : (p : ℕ) → Inside F owner b p → script F R g.lines p ≡ at_point p w.lines
     script_inside p i =
         script_own p i.owned
         ∙ ap (λ l. at_point p w.lines ++ l) (hops_none F kept p (each_of w.exits (λ y h. eqb_sym y.item p ∙ i.apart y.item y.block (exit_listed B e h))))
         ∙ append-nil (at_point p w.lines)
 
     -- at a target item, the jump's own alone
-    script_item : {y : Exit Env} → Has y w.exits → script F R g.lines y.item ≡ at_point y.item (hop F kept y)
+    pub script_item : {y : Exit Env} → Has y w.exits → script F R g.lines y.item ≡ at_point y.item (hop F kept y)
     script_item {y} h =
         script_own y.item (N.owned (exit_listed B e h))
         ∙ cc (at_none y.item (each_same (λ l i. i.apart y.item y.block (exit_listed B e h)) (N.inside e)), hops_one F kept (exits_once F B G N kept E₀ e) h)
@@ -272,43 +246,9 @@ module _ {Env Stmt : Type 0} (F : Frame Env Stmt) {Ok : Env → Type 0} (B : Bod
     pub fine : R.Fine b (script F R g.lines) E
     pub jumps : {i c : ℕ} → Has (i, c) (F.targets b) → (D : Env) × (jump F R g.lines b i end ≡ done D) × At F kept E₀ c D
 
-  -- each block is passed from its canonical state
-  pub at_passed : {b : ℕ} {E : Env} → At F kept E₀ b E → Passed b E
-  unfolding jump
-  at_passed {b} {E} A =
-      let T = at_through F B G N kept E₀ S A in
-      let w = T.worked in
-      let e = T.given in
-      let Q = W.follows (at_good A) e (script_inside A e) in
-      record {
-        end = Q.end;
-        ends = Q.ends;
-        fine = Q.fine;
-        jumps = λ {i} {c} h.
-            let I = has_image target w.exits (rw (← B.listed e) at h) in
-            let y = I.from in
-            let l = hop_lands y (λ j. goto_calm_join F (visit F) y (T.jumps I.stands) j) (λ j. at_on A e I.stands j) in
-            let p : y.item ≡ i = ap (λ t. t.0) I.goes in
-            let q : y.block ≡ c = ap (λ t. t.1) I.goes in
-            let d = Q.departs I.stands in
-            (l.state, cc (script_item A e I.stands, l.carried), subst (λ z. At F kept E₀ z l.state) q l.canon);
-      }
-
   -- where a list of jumps comes to
   pub record Comes (is : List ℕ) (b : ℕ) (E : Env) (d : ℕ) : Type 0 where
     pub state : Env
     pub plays : play F R g.lines is b E ≡ done (d, state)
     pub canon : At F kept E₀ d state
     pub fine : R.Fine d (script F R g.lines) state
-
-  -- along a list of jumps the state stays canonical
-  pub play_comes : {is : List ℕ} {b d : ℕ} {E : Env} → At F kept E₀ b E → Path F b is d → Comes is b E d
-  unfolding play
-  play_comes {E} A path_end =
-      let p = at_passed A in
-      record { state = E; plays = cc p.ends; canon = A; fine = p.fine }
-  play_comes {E} A (path_on {b} {i} {c} h t) =
-      let p = at_passed A in
-      let (D, j, A') = p.jumps h in
-      let k = play_comes A' t in
-      record { state = k.state; plays = cc (has_find F (N.once b) h, p.ends, j, k.plays); canon = k.canon; fine = k.fine }

@@ -7,7 +7,7 @@ use mathlib.Core.List.{List, [], ◌∷◌}
 use Prim.Native.Nat.{ℕ, zero, suc}
 use Rattle.model.specs.Answer.{Answer, refused, done, ◌>>=◌}
 use Rattle.model.specs.Frame.{Line, Exit, Work, Frame, Outcome, over, stop, into, say, meet, next, says, goto, leave, work, enter, visit, opening_exit, opening}
-use Rattle.model.specs.Passes.{absorb, arrive, hear}
+use Rattle.model.specs.Passes.{absorb}
 use Rattle.base.specs.Tests.{split}
 use Rattle.base.specs.Answer.{split_answer}
 

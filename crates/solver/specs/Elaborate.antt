@@ -7,18 +7,15 @@ use Rattle.std.proofs.Math.Bool.{true, false}
 use Rattle.std.proofs.Math.Option.{Option, some}
 use Prim.Native.Nat.{ℕ, zero, suc, ◌<◌}
 use borrow.Author.Tests.{eqb-true}
-use Rattle.model.specs.Answer.{done}
-use Rattle.model.specs.Rounds.{put, elem, idle, broke, turned, run_rounds, lowest}
+use Rattle.model.specs.Rounds.{put, elem}
 use Rattle.model.specs.Frame.{Frame, target, enter, visit, opening_exit, opening}
-use Rattle.model.specs.Passes.{Log, visiting, round_two, unvisited, fresh_log, elaborate}
-use Rattle.base.specs.Tests.{split, split_option, clash, eqb_sym}
-use Rattle.solver.specs.Lists.{put_same, put_other, has_image, Once, once_none, once_more, left_fall}
-use Rattle.solver.specs.Loop.{after, Falls, run_round, run_ends, run_gives}
-use Rattle.solver.specs.Lowest.{lowest_none, lowest_some}
+use Rattle.model.specs.Passes.{Log, visiting, fresh_log}
+use Rattle.base.specs.Tests.{split, clash, eqb_sym}
+use Rattle.solver.specs.Lists.{put_same, put_other, has_image, Once, once_none, once_more}
 use Rattle.solver.specs.Laws.{Bodies, Collects}
 use Rattle.solver.specs.Outcome.{Every, Calm, every_map, calm_every, stop_calm, calm_inner, goto_calm_join, goto_calm_on, work_calm}
 use Rattle.solver.specs.Solution.{Leads, leads_to, leads_on, Reach, reach_start, reach_first, reach_on, Solution}
-use Rattle.solver.specs.Told.{stored_visit, story, due, Told, due_told, take_gives}
+use Rattle.solver.specs.Told.{stored_visit, story, due, Told, due_told}
 
 -- the second pass under way
 pub record Under {Env Stmt : Type 0} (F : Frame Env Stmt) (kept : ℕ → Option Env) (ts : List Stmt) (E : Env) (g : Log Stmt) : Type 0 where
@@ -56,7 +53,7 @@ module _ {Env Stmt : Type 0} (F : Frame Env Stmt) (Ok : Env → Type 0) (C : Col
   due_went {g} W c d = due_told F Ok C kept W.told c (due_visiting g W.block c d)
 
   -- a turn keeps what is under way
-  under_went : {g h : Log Stmt} → Under F kept ts E g → Went F kept g h → Under F kept ts E h
+  pub under_went : {g h : Log Stmt} → Under F kept ts E g → Went F kept g h → Under F kept ts E h
   unfolding elem story
   under_went {g} {h} U W =
       let b = W.block in
@@ -83,52 +80,6 @@ module _ {Env Stmt : Type 0} (F : Frame Env Stmt) (Ok : Env → Type 0) (C : Col
       }
 
   module _ (X : Solution F Ok E kept) where
-    -- a round that pops a block is not refused
-    step_two : (g : Log Stmt) → Under F kept ts E g → (b : ℕ) → lowest F.rank g.waits F.blocks ≡ some b
-        → (h : Log Stmt) × (round_two F kept g ≡ turned h) × Went F kept g h
-    unfolding round_two
-    step_two g U b e =
-        let w = lowest_some F.rank g.waits F.blocks b e in
-        let (S, p) = (U.waiting b w.1).1 in
-        let (h, t, T) = take_gives F Ok C kept (visiting F kept b g) (X.visits b S p) in
-        (h, cc, record { block = b; state = S; below = w.0; waited = w.1; stored = p; told = T })
-
-    -- a round that goes on has visited a block
-    turn_two : (g h : Log Stmt) → Under F kept ts E g → round_two F kept g ≡ turned h → Went F kept g h
-    unfolding round_two
-    turn_two g h U e = split_option (lowest F.rank g.waits F.blocks)
-        (λ p. clash (cc))
-        (λ b p. let (k, d, W) = step_two g U b p in let q : k ≡ h = cc in rw (← q) W)
-
-    -- no round is refused
-    calm_two : (g : Log Stmt) (k : ℕ) → Under F kept ts E g → round_two F kept g ≡ broke k → ⊥
-    unfolding round_two
-    calm_two g k U e = split_option (lowest F.rank g.waits F.blocks)
-        (λ p. clash (cc))
-        (λ b p. let (h, d, W) = step_two g U b p in clash (cc))
-
-    -- at rest, nothing waits
-    rest_two : (g : Log Stmt) → Under F kept ts E g → round_two F kept g ≡ idle → (b : ℕ) → b < F.blocks → g.waits b ≡ false
-    unfolding round_two
-    rest_two g U e = split_option (lowest F.rank g.waits F.blocks)
-        (λ p. lowest_none F.rank g.waits F.blocks p)
-        (λ b p. let (h, d, W) = step_two g U b p in clash (cc))
-
-    -- TERMINATION: every round visits one block more
-    pub elaborate_falls : Falls (round_two F kept) (Under F kept ts E) (unvisited F kept)
-    unfolding unvisited
-    elaborate_falls = record {
-      keeps = λ {s = g} {t = h} U e. under_went U (turn_two g h U e);
-      less = λ {s = g} {t = h} U e.
-          let W = turn_two g h U e in
-          let f = left_fall F.blocks W.block g.visited W.below (U.waiting W.block W.waited).0 in
-          rw W.told.same f;
-    }
-
-    -- one round of the second pass
-    pub elaborate_round : (g : Log Stmt) → Under F kept ts E g → run_rounds (round_two F kept) (unvisited F kept) g ≡ after g (round_two F kept g) (run_rounds (round_two F kept) (unvisited F kept))
-    elaborate_round g U = run_round (round_two F kept) elaborate_falls g U
-
     -- after the opening
     pub under_opens : {g : Log Stmt} → Told F kept (fresh_log F kept ts) (opening F E) g → Under F kept ts E g
     unfolding elem story
@@ -171,16 +122,8 @@ module _ {Env Stmt : Type 0} {F : Frame Env Stmt} {Ok : Env → Type 0} (B : Bod
 
 module _ {Env Stmt : Type 0} (F : Frame Env Stmt) (Ok : Env → Type 0) (B : Bodies F Ok) (C : Collects F Ok)
     (kept : ℕ → Option Env) (ts : List Stmt) (E : Env) (X : Solution F Ok E kept) where
-  -- at rest, what is due was visited
-  due_rest : (g : Log Stmt) → Under F kept ts E g → round_two F kept g ≡ idle → (c : ℕ) → due F kept g c ≡ true → elem c g.visited ≡ true
-  unfolding due
-  due_rest g U e c d = split (elem c g.visited) (λ f. f) (λ f.
-      let w : g.waits c ≡ true = cc in
-      let (S, p) = (U.waiting c w).1 in
-      clash (cc (rest_two F Ok C kept ts E X g U e c (X.placed c S p).below)))
-
   -- where all that is due was visited, every reached join point was
-  reach_visited : (g : Log Stmt) → Under F kept ts E g → ((c : ℕ) → due F kept g c ≡ true → elem c g.visited ≡ true)
+  pub reach_visited : (g : Log Stmt) → Under F kept ts E g → ((c : ℕ) → due F kept g c ≡ true → elem c g.visited ≡ true)
       → {c : ℕ} → Reach F c → elem c g.visited ≡ true
   unfolding opening visit stored_visit
   reach_visited g U r (reach_start j) = r 0 (goto_calm_join F (visit F) (opening_exit F E) (calm_every X.opens U.opened) j)
@@ -190,22 +133,3 @@ module _ {Env Stmt : Type 0} (F : Frame Env Stmt) (Ok : Env → Type 0) (B : Bod
       let v = reach_visited g U r R in
       let (S, p) = U.stored b v in
       r c (leads_calm B (λ d. due F kept g d ≡ true) l F.blocks S (calm_every (X.visits b S p) (rw (p, stored_visit) at (U.closed b v))))
-
-  -- THE SECOND PASS is never refused, visits every stored block exactly once, and records the story of its visits
-  pub elaborate_works : (g : Log Stmt) × (elaborate F kept ts E ≡ done g) × Elaborated F kept ts E g
-  unfolding elaborate
-  elaborate_works =
-      let (h, e, T) = take_gives F Ok C kept (fresh_log F kept ts) X.opens in
-      let O = under_opens F Ok C kept ts E X T in
-      let (g, d) = run_gives (round_two F kept) (elaborate_falls F Ok C kept ts E X) (calm_two F Ok C kept ts E X) h O in
-      let K = run_ends (round_two F kept) (elaborate_falls F Ok C kept ts E X) O d in
-      let U = K.holds in (
-        g,
-        cc,
-        record {
-          once = U.once;
-          only = U.stored;
-          every = λ b S p. reach_visited g U (due_rest g U K.rests) (X.placed b S p).reach;
-          recorded = U.recorded;
-        },
-      )

@@ -7,11 +7,11 @@ use Prim.Native.Nat.{ℕ, zero, suc, ◌≤◌, ◌<◌}
 use Rattle.std.proofs.Common.{arith}
 use borrow.Author.Tests.{eqb-true}
 use Rattle.model.specs.Answer.{Answer, refused, done}
-use Rattle.model.specs.Rounds.{elem, left}
-use Rattle.model.specs.Frame.{Exit, Work, Frame, Outcome, into, goto, leave, work, enter, visit}
+use Rattle.model.specs.Rounds.{elem}
+use Rattle.model.specs.Frame.{Exit, Work, Frame, Outcome, into, goto, leave, work, enter}
 use Rattle.base.specs.Tests.{split, clash, eqb_same}
 use Rattle.base.specs.Each.{Each, each_none, each_more}
-use Rattle.solver.specs.Lists.{Has, each_of, Once, once_none, once_more, once_head, left_fall, left_most}
+use Rattle.solver.specs.Lists.{Has, each_of, Once, once_none, once_more, once_head}
 use Rattle.solver.specs.Laws.{Bodies, Edges}
 use Rattle.solver.specs.Arrivals.{exit_listed}
 
@@ -32,7 +32,7 @@ module _ {Env Stmt : Type 0} (F : Frame Env Stmt) where
   Deep (suc n) b = (i c : ℕ) → Has (i, c) (F.targets b) → F.join_point c ≡ false → Deep n c
 
   -- more fuel is enough too
-  deep_more : (n m b : ℕ) → n ≤ m → Deep n b → Deep m b
+  pub deep_more : (n m b : ℕ) → n ≤ m → Deep n b → Deep m b
   deep_more zero m b l d = absurd d
   deep_more (suc n) zero b l d = absurd (omega arith)
   deep_more (suc n) (suc m) b l d = λ i c h e. deep_more n m c (omega arith) (d i c h e)
@@ -70,38 +70,15 @@ module _ {Env Stmt : Type 0} (F : Frame Env Stmt) where
     way_once (way_root r) = once_more refl once_none
     way_once (way_on W h e) = let o = way_once W in once_more (fresh W h e (once_head o)) o
 
-    -- the blocks that are not yet on the way are enough
-    way_deep : (n b : ℕ) (w : List ℕ) → Way b w → left F.blocks (b ∷ w) ≤ n → Deep (suc n) b
-    way_deep zero b w W l = λ i c h e.
-        let f = left_fall F.blocks c (b ∷ w) (G.below h) (once_head (way_once (way_on W h e))) in
-        absurd (omega arith)
-    way_deep (suc n) b w W l = λ i c h e.
-        let W' = way_on W h e in
-        let f = left_fall F.blocks c (b ∷ w) (G.below h) (once_head (way_once W')) in
-        way_deep n c (b ∷ w) W' (omega arith)
-
     -- a root is a block
     pub root_below : {b : ℕ} → Root b → b < F.blocks
     root_below (root_join j l) = l
     root_below root_start = G.some_block
 
-    -- from a root the blocks of the frame are enough
-    pub root_deep : {b : ℕ} → Root b → Deep F.blocks b
-    unfolding elem
-    root_deep {b} r =
-        let f = left_fall F.blocks b [] (root_below r) refl in
-        let m = left_most F.blocks [] in
-        deep_more (suc (left F.blocks (b ∷ []))) F.blocks b (omega arith) (way_deep (left F.blocks (b ∷ [])) b [] (way_root r) (omega arith))
-
     -- what is enough for a block is enough for those that it enters
-    deep_next : (n b : ℕ) → Deep n b → {i c : ℕ} → Has (i, c) (F.targets b) → F.join_point c ≡ false → Deep n c
+    pub deep_next : (n b : ℕ) → Deep n b → {i c : ℕ} → Has (i, c) (F.targets b) → F.join_point c ≡ false → Deep n c
     deep_next zero b d h e = absurd d
     deep_next (suc n) b d {i} {c} h e = deep_more n (suc n) c (omega arith) (d i c h e)
-
-    -- and so from each block entered in a visit
-    pub rooted_deep : {b : ℕ} → Rooted b → Deep F.blocks b
-    rooted_deep (rooted r) = root_deep r
-    rooted_deep (rooted_on {b} R h e) = deep_next F.blocks b (rooted_deep R) h e
 
   -- jumps go the same way, where the blocks entered do
   abbrev Same : (ℕ → Env → Outcome Env Stmt) → (ℕ → Env → Outcome Env Stmt) → Exit Env → Type 0
@@ -137,14 +114,9 @@ module _ {Env Stmt : Type 0} (F : Frame Env Stmt) where
         (λ i c D h e. enter_same n m c D (d i c h e) (f i c h e)))
 
     -- a block entered with enough fuel for those that it enters
-    step : (n b : ℕ) (E : Env) → Deep n b → ((i c : ℕ) → Has (i, c) (F.targets b) → F.join_point c ≡ false → Deep n c)
+    pub step : (n b : ℕ) (E : Env) → Deep n b → ((i c : ℕ) → Has (i, c) (F.targets b) → F.join_point c ≡ false → Deep n c)
         → enter F n b E ≡ into b E (work F (enter F n) (F.body b E))
     unfolding enter
     step zero b E d f = absurd d
     step (suc n) b E d f = ap (λ o. into b E o) (work_same (enter F n) (enter F (suc n)) (F.body b E) refl
         (λ i c D h e. enter_same n (suc n) c D (d i c h e) (f i c h e)))
-
-    -- the law of a visit, with no fuel
-    pub visit_step : (G : Edges F) {b : ℕ} (E : Env) → Rooted b → visit F b E ≡ into b E (work F (visit F) (F.body b E))
-    unfolding visit
-    visit_step G {b} E R = step F.blocks b E (rooted_deep G R) (λ i c h e. rooted_deep G (rooted_on R h e))

@@ -29,11 +29,13 @@ pub record Image {A B : Type 0} (f : A → B) (l : List A) (b : B) : Type 0 wher
 
 -- and a member of the image comes from one
 pub has_image : {A B : Type 0} (f : A → B) (l : List A) {b : B} → Has b (map f l) → Image f l b
+has_image f [] h = elim h [ ]
 has_image f (a ∷ l) here = record { from = a; stands = here; goes = refl }
 has_image f (a ∷ l) (later h) = let k = has_image f l h in record { from = k.from; stands = later k.stands; goes = k.goes }
 
 -- what holds of each holds of a member
 pub each_has : {A : Type 0} {P : A → Type 0} {a : A} {l : List A} → Each P l → Has a l → P a
+each_has each_none h = elim h [ ]
 each_has (each_more p ps) here = p
 each_has (each_more p ps) (later h) = each_has ps h
 

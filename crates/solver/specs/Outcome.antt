@@ -93,11 +93,16 @@ pub record Through {Env Stmt : Type 0} (F : Frame Env Stmt) (P : Exit Env → Ty
 
 -- what a calm visit says of its jumps
 module _ {Env Stmt : Type 0} (F : Frame Env Stmt) {P : Exit Env → Type 0} (go : ℕ → Env → Outcome Env Stmt) where
+  -- each jump of a calm block is calm: stated so that the list is recursed on
+  leave_calm_by : {x : Exit Env} {xs : List (Exit Env)} → Calm P (leave F go xs) → Has x xs → Calm P (goto F go x)
+  unfolding leave
+  leave_calm_by {xs = []} k h = elim h [ ]
+  leave_calm_by {xs = x ∷ xs} k here = (calm_next (goto F go x) k).0
+  leave_calm_by {xs = y ∷ xs} k (later h) = leave_calm_by (calm_next (goto F go y) k).1 h
+
   -- each jump of a calm block is calm
   pub leave_calm : {xs : List (Exit Env)} → Calm P (leave F go xs) → {x : Exit Env} → Has x xs → Calm P (goto F go x)
-  unfolding leave
-  leave_calm {xs = x ∷ xs} k here = (calm_next (goto F go x) k).0
-  leave_calm {xs = y ∷ xs} k (later h) = leave_calm (calm_next (goto F go y) k).1 h
+  leave_calm k h = leave_calm_by k h
 
   -- a calm jump to a join point arrives
   pub goto_calm_join : (x : Exit Env) → Calm P (goto F go x) → F.join_point x.block ≡ true → P x

@@ -5,26 +5,21 @@ use Rattle.std.proofs.Math.Path.{refl, subst}
 use mathlib.Core.List.{List, [], ◌∷◌}
 use Prim.Native.Nat.{ℕ, zero, suc, ◌<◌}
 use Rattle.model.specs.Answer.{Answer, refused, done}
-use Rattle.model.specs.Rounds.{broke, lowest}
-use Rattle.model.specs.Frame.{Line, Exit, Work, Frame, Outcome, over, stop, into, say, meet, next, says, goto, leave, work, enter, visit, opening_exit, opening}
-use Rattle.model.specs.Passes.{absorb, Store, empty, unwait, merge, arrive, take_in, round, solve, infer, analyse}
+use Rattle.model.specs.Frame.{Line, Exit, Work, Frame, Outcome, over, stop, into, say, meet, next, says, goto, leave, work, enter}
+use Rattle.model.specs.Passes.{absorb, Store, merge, arrive, take_in}
 use Rattle.base.specs.Tests.{split, split_option, clash}
 use Rattle.base.specs.Answer.{split_answer}
 use Rattle.base.specs.Each.{Each, each_none, each_more}
 use Rattle.solver.specs.Lists.{Has, each_has, each_of}
-use Rattle.solver.specs.Loop.{run_refused}
-use Rattle.solver.specs.Lowest.{lowest_some}
-use Rattle.solver.specs.Laws.{Good, Lattice, Bodies, Collects, Edges}
+use Rattle.solver.specs.Laws.{Good, Bodies, Edges}
 use Rattle.solver.specs.Arrivals.{exit_listed}
-use Rattle.solver.specs.Solution.{Partial, partial_falls, partial_opens, infer_solves}
-use Rattle.solver.specs.Fuel.{Root, root_join, root_start, Deep, root_below, root_deep}
-use Rattle.solver.specs.Elaborate.{elaborate_works}
+use Rattle.solver.specs.Fuel.{Deep}
 
 -- Q: what is shown of every refusal's number
 module _ {Env Stmt : Type 0} (F : Frame Env Stmt) {Ok : Env → Type 0} (B : Bodies F Ok) (G : Edges F) (Q : ℕ → Type 0)
     (full : Q 9) (own_run : (b : ℕ) (E : Env) (r : ℕ) → b < F.blocks → Good F Ok E → F.body b E ≡ refused r → Q r) where
   -- an outcome that is refused with such numbers alone
-  data Stops : Outcome Env Stmt → Type 0 where
+  pub data Stops : Outcome Env Stmt → Type 0 where
     stops_over : Stops over
     stops_stop : {r : ℕ} → Q r → Stops (stop r)
     stops_into : {b : ℕ} {E : Env} {o : Outcome Env Stmt} → Stops o → Stops (into b E o)
@@ -47,7 +42,7 @@ module _ {Env Stmt : Type 0} (F : Frame Env Stmt) {Ok : Env → Type 0} (B : Bod
   stops_says (l ∷ ls) h = stops_say (stops_says ls h)
 
   -- jumps to where the fuel is enough
-  goto_stops : (go : ℕ → Env → Outcome Env Stmt) (x : Exit Env) → (F.join_point x.block ≡ false → Stops (go x.block x.state)) → Stops (goto F go x)
+  pub goto_stops : (go : ℕ → Env → Outcome Env Stmt) (x : Exit Env) → (F.join_point x.block ≡ false → Stops (go x.block x.state)) → Stops (goto F go x)
   unfolding goto
   goto_stops go x f = split (F.join_point x.block) (λ e. rw (e, goto) (stops_meet stops_over)) (λ e. rw (e, goto) (f e))
 
@@ -67,20 +62,10 @@ module _ {Env Stmt : Type 0} (F : Frame Env Stmt) {Ok : Env → Type 0} (B : Bod
       (leave_stops go (each_of w.exits (λ x h j. f x.item x.block x.state (exit_listed B e h) j (each_has (B.good g e) h))))
 
   -- a block entered with enough fuel
-  enter_stops : (n b : ℕ) (E : Env) → Deep F n b → b < F.blocks → Good F Ok E → Stops (enter F n b E)
+  pub enter_stops : (n b : ℕ) (E : Env) → Deep F n b → b < F.blocks → Good F Ok E → Stops (enter F n b E)
   unfolding enter
   enter_stops zero b E d l g = absurd d
   enter_stops (suc n) b E d l g = stops_into (work_stops (enter F n) (F.body b E) refl l g (λ i c D h e k. enter_stops n c D (d i c h e) (G.below h) k))
-
-  -- a visit
-  visit_stops : {b : ℕ} (E : Env) → Root F b → Good F Ok E → Stops (visit F b E)
-  unfolding visit
-  visit_stops {b} E r g = enter_stops F.blocks b E (root_deep F G r) (root_below F G r) g
-
-  -- the opening
-  opening_stops : (E : Env) → Good F Ok E → Stops (opening F E)
-  unfolding opening
-  opening_stops E g = goto_stops (visit F) (opening_exit F E) (λ e. visit_stops E root_start g)
 
   -- an arrival is refused with 9 alone
   arrive_refused : (x : Exit Env) (s : Store Env) (r : ℕ) → arrive F x s ≡ refused r → Q r
@@ -92,7 +77,7 @@ module _ {Env Stmt : Type 0} (F : Frame Env Stmt) {Ok : Env → Type 0} (B : Bod
       (λ m. let q : 9 ≡ r = cc in subst Q q full))
 
   -- to take in an outcome is refused as the outcome or an arrival is
-  take_refused : (s : Store Env) (r : ℕ) {o : Outcome Env Stmt} → Stops o → take_in F o s ≡ refused r → Q r
+  pub take_refused : (s : Store Env) (r : ℕ) {o : Outcome Env Stmt} → Stops o → take_in F o s ≡ refused r → Q r
   unfolding take_in absorb
   take_refused s r stops_over e = clash (cc)
   take_refused s r (stops_stop {r = k} p) e = let q : k ≡ r = cc in subst Q q p
@@ -101,32 +86,3 @@ module _ {Env Stmt : Type 0} (F : Frame Env Stmt) {Ok : Env → Type 0} (B : Bod
   take_refused s r (stops_meet {x} h) e = split_answer (arrive F x s)
       (λ k d. let q : k ≡ r = cc in subst Q q (arrive_refused x s k d))
       (λ t d. take_refused t r h (cc))
-
-  module _ (L : Lattice F Ok) where
-    -- a round is refused as the visit of a stored block is
-    round_refused : {E : Env} (s : Store Env) (r : ℕ) → Partial F Ok E s → round F s ≡ broke r → Q r
-    unfolding round
-    round_refused s r I e = split_option (lowest F.rank s.waits F.blocks)
-        (λ p. clash (cc))
-        (λ b p.
-        let w = lowest_some F.rank s.waits F.blocks b p in
-        let (S, q) = I.sound.known b w.1 in
-        split_answer (take_in F (visit F b S) (unwait b s))
-        (λ k d. let z : k ≡ r = cc in subst Q z (take_refused (unwait b s) k (visit_stops S (root_join (I.placed b S q).joins w.0) (I.sound.fine b S q)) d))
-        (λ t d. clash (cc)))
-
-    -- the first pass
-    pub infer_refused : {E : Env} {r : ℕ} → Good F Ok E → infer F E ≡ refused r → Q r
-    unfolding infer solve
-    infer_refused {E} {r} g e = split_answer (take_in F (opening F E) empty)
-        (λ k d. let q : k ≡ r = cc in subst Q q (take_refused empty k (opening_stops E g) d))
-        (λ s d. run_refused (round F) (partial_falls F Ok L B G E) round_refused s r (partial_opens F Ok L B G g d) (cc))
-
-    -- and so the whole, since the second is not refused
-    pub analyse_refused : (C : Collects F Ok) (ts : List Stmt) {E : Env} {r : ℕ} → Good F Ok E → analyse F ts E ≡ refused r → Q r
-    unfolding analyse
-    analyse_refused C ts {E} {r} g e = split_answer (infer F E)
-        (λ k d. let q : k ≡ r = cc in subst Q q (infer_refused g d))
-        (λ s d.
-        let (h, k, K) = elaborate_works F Ok B C s.kept ts E (infer_solves F Ok L B G g d) in
-        clash (cc))

@@ -10,11 +10,11 @@ use borrow.Author.Tests.{eqb-true}
 use Rattle.model.specs.Answer.{refused, done}
 use Rattle.model.specs.Rounds.{elem}
 use Rattle.model.specs.Frame.{Line, Exit, Frame, Outcome, over, stop, into, say, meet, visit, opening, mark}
-use Rattle.model.specs.Passes.{absorb, Log, hear, arrived, reconcile, arrive_at, take_down}
+use Rattle.model.specs.Passes.{Log, hear, arrived, reconcile, arrive_at}
 use Rattle.base.specs.Tests.{split, clash}
 use Rattle.solver.specs.Lists.{put_same, put_other}
 use Rattle.solver.specs.Laws.{Collects}
-use Rattle.solver.specs.Outcome.{Every, every_over, every_into, every_say, every_meet, Calm, calm_over, calm_into, calm_say, calm_meet}
+use Rattle.solver.specs.Outcome.{Every, every_over, every_say, every_meet}
 use Rattle.solver.specs.Solution.{Covered}
 
 module _ {Env Stmt : Type 0} (F : Frame Env Stmt) (kept : ℕ → Option Env) where
@@ -65,14 +65,14 @@ module _ {Env Stmt : Type 0} (F : Frame Env Stmt) (Ok : Env → Type 0) (C : Col
       (λ e. cc (T.same, T.waits_on c (cc)))
 
   -- a covered arrival is accepted
-  arrive_gives : (x : Exit Env) (g : Log Stmt) → Covered F Ok kept x → arrive_at F kept x g ≡ done (arrived F kept x (gives F kept x) g)
+  pub arrive_gives : (x : Exit Env) (g : Log Stmt) → Covered F Ok kept x → arrive_at F kept x g ≡ done (arrived F kept x (gives F kept x) g)
   unfolding arrive_at reconcile gives
   arrive_gives x g D =
       let k = C.collects D.good D.ok D.above in
       cc (D.stored, k.given)
 
   -- nothing more
-  told_over : (g : Log Stmt) → Told F kept g over g
+  pub told_over : (g : Log Stmt) → Told F kept g over g
   unfolding tell
   told_over g = record {
     same = refl;
@@ -83,7 +83,7 @@ module _ {Env Stmt : Type 0} (F : Frame Env Stmt) (Ok : Env → Type 0) (C : Col
   }
 
   -- a line first
-  told_say : {g h : Log Stmt} {l : Line Stmt} {o : Outcome Env Stmt} → Told F kept (hear F kept l g) o h → Told F kept g (say l o) h
+  pub told_say : {g h : Log Stmt} {l : Line Stmt} {o : Outcome Env Stmt} → Told F kept (hear F kept l g) o h → Told F kept g (say l o) h
   unfolding tell hear
   told_say {g} {h} {l} {o} T = record {
     same = T.same;
@@ -94,7 +94,7 @@ module _ {Env Stmt : Type 0} (F : Frame Env Stmt) (Ok : Env → Type 0) (C : Col
   }
 
   -- an arrival first
-  told_meet : {g h : Log Stmt} {x : Exit Env} {o : Outcome Env Stmt} → Covered F Ok kept x
+  pub told_meet : {g h : Log Stmt} {x : Exit Env} {o : Outcome Env Stmt} → Covered F Ok kept x
       → Told F kept (arrived F kept x (gives F kept x) g) o h → Told F kept g (meet x o) h
   unfolding tell arrived
   told_meet {g} {h} {x} {o} D T =
@@ -114,14 +114,3 @@ module _ {Env Stmt : Type 0} (F : Frame Env Stmt) (Ok : Env → Type 0) (C : Col
             (λ q. T.waits_new d w (cc (put_other g.waits c true d q))));
         heard = every_meet (due_told T c (arrived_due x (gives F kept x) g)) T.heard;
       }
-
-  -- an outcome whose arrivals are covered is taken down
-  pub take_gives : (g : Log Stmt) {o : Outcome Env Stmt} → Calm (Covered F Ok kept) o
-      → (h : Log Stmt) × (take_down F kept o g ≡ done h) × Told F kept g o h
-  unfolding take_down absorb tell
-  take_gives g calm_over = (g, refl, told_over g)
-  take_gives g (calm_into k) = let (h, e, T) = take_gives g k in
-      (h, e, record { same = T.same; recorded = T.recorded; waits_on = T.waits_on; waits_new = T.waits_new; heard = every_into T.heard })
-  take_gives g (calm_say {l} {o} k) = let (h, e, T) = take_gives (hear F kept l g) k in (h, e, told_say T)
-  take_gives g (calm_meet {x} {o} D k) = let (h, e, T) = take_gives (arrived F kept x (gives F kept x) g) k in
-      (h, cc (arrive_gives x g D), told_meet D T)
