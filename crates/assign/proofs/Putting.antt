@@ -1,6 +1,6 @@
 -- Items put in a row.
 use mathlib.Core.Path.{◌≡◌, refl, sym, ap, ◌∙◌, subst}
-use mathlib.Core.Bool.{Bool, true, false}
+use mathlib.Core.Bool.{Bool, true, false, cond}
 use mathlib.Core.List.{List, [], ◌∷◌, ◌++◌}
 use Prim.Native.Nat.{ℕ, ◌+◌, ◌≤◌}
 use native.Mathlib.Omega.{arith}
@@ -19,7 +19,10 @@ module _ (w : Bool) (total : ℕ) where
 
   length_putting : (at : ℕ) (e : Entry) (out : List ℕ) → length (putting w total at e out) ≡ length out
   unfolding putting
-  length_putting at e out = elim w [ true ↦ length-set (set out (1 + at) e.0) (1 + total + at) e.1 ∙ length-set out (1 + at) e.0 | false ↦ refl ]
+  length_putting at e out = elim w as (λ v. length (cond v (set (set out (1 + at) e.0) (1 + total + at) e.1) out) ≡ length out) [
+    | true ↦ length-set (set out (1 + at) e.0) (1 + total + at) e.1 ∙ length-set out (1 + at) e.0
+    | false ↦ refl
+  ]
 
   length_puttings : (es : List Entry) (at : ℕ) (out : List ℕ) → length (puttings w total at es out) ≡ length out
   unfolding puttings

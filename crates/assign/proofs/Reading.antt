@@ -156,7 +156,7 @@ module _ (ws : List ℕ) where
       let r = assign_read at l in
       let d = one at (omega arith) in
       let g : read_assign (word ws at ∷ drop (suc at) ws) ≡ done (assign_at ws at, drop (assign_end ws at) ws) = cc in
-      rw (d, read_list, g, ahead_read n A (omega arith)) refl
+      rw (d, read_list, g, ahead_read {at = assign_end ws at} n A (omega arith)) refl
 
   -- what is read stands there
   pub list_ahead : (n at : ℕ) {ss : List Assign} → at ≤ length ws → read_list n (drop at ws) ≡ done ss → Ahead ws at ss

@@ -9,9 +9,9 @@ pub mod Checked
 pub mod Puts
 -- what the call answers
 pub mod Answers
--- THE ORDER: the source's clauses, and the one rule that all are: clauses-one
+-- THE ORDER: the source's clauses, and the one rule that all are: clauses_one
 pub mod Clauses
--- WHERE IT CAN STAND: by the order of items, from where a use may begin back to there: given-leads
+-- WHERE IT CAN STAND: by the order of items, from where a use may begin back to there: given_leads
 pub mod Leads
--- so a record that is made of such items is in order: made-ordered, made-passes
+-- so a record that is made of such items is in order: made_ordered, made_passes
 pub mod Made

@@ -12,7 +12,7 @@ use type_record::record::wide;
 
 // Where reading and writing have come to: the word of the list, and the item, of so many in all. Nothing is written where items are
 // only counted.
-#[derive(Drop)]
+#[derive(Clone, Copy)]
 pub struct Pen {
     pub from: usize,
     pub at: usize,

@@ -13,7 +13,8 @@ use Rattle.model.specs.Block.{root_before, spot_before, uses_place, latest_note,
 use Rattle.base.specs.Tests.{split, split_option}
 use Rattle.base.specs.Collected.{collect_mem}
 use Rattle.graph.specs.Ranges.{Holds}
-use Rattle.graph.specs.Places.{Placed, action_uses, note_reads}
+use Rattle.graph.specs.Places.{Placed}
+use Rattle.graph.proofs.Places.{action_uses, note_reads}
 use Rattle.graph.specs.Used.{latest_noted}
 use Rattle.mir.specs.Sizes.{Formed}
 use Rattle.blocks.specs.Points.{read_before, matched_read, switch_item}

@@ -18,8 +18,9 @@ use Rattle.model.specs.Calls.{elems_of, spot_of}
 use Rattle.base.specs.Tests.{split}
 use Rattle.base.specs.Function.{FunctionFacts, facts_of, stop_inside}
 use Rattle.records.specs.Spots.{item_ok}
-use Rattle.graph.specs.Ranges.{item_holds}
-use Rattle.graph.specs.Places.{Placed, place_placed, action_uses, entry_op}
+use Rattle.graph.proofs.Ranges.{item_holds}
+use Rattle.graph.specs.Places.{Placed}
+use Rattle.graph.proofs.Places.{place_placed, action_uses, entry_op}
 use Rattle.mir.specs.Sizes.{Laid, Formed}
 use Rattle.mir.specs.Parts.{ops_start, ops_part, args_part, Spotted}
 

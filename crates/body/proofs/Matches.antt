@@ -19,7 +19,7 @@ use Rattle.base.specs.Tests.{split, clash}
 use Rattle.base.specs.Answer.{then_done, good_at}
 use Rattle.base.specs.Kinds.{kind_known}
 use Rattle.laws.specs.Refusals.{enum_kind}
-use Rattle.graph.specs.Enders.{target_last}
+use Rattle.graph.proofs.Enders.{target_last}
 use Rattle.state.specs.declared.nodes.State.{State}
 use Rattle.state.proofs.Fields.{ready_typed}
 use Rattle.blocks.specs.Points.{item_of}
@@ -29,7 +29,7 @@ use Rattle.env.specs.declared.project.On.TheVariants.{Enum, Element, Refused as 
 use Rattle.blocks.proofs.Spots.{formed_accepted, block_stop}
 use Rattle.blocks.proofs.Points.{Matched, matched_holds}
 use Rattle.body.specs.declared.arms.Subject.{Subject}
-use Rattle.state.specs.Given.{Accepted, Stated, In-each}
+use Rattle.state.specs.Given.{Accepted, Stated, InEach}
 use Rattle.body.specs.Arms.{Sought}
 use Rattle.body.specs.Tries.{Matching, Blank}
 use Rattle.body.proofs.Variants.{count_few}

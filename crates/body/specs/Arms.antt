@@ -16,7 +16,7 @@ use Rattle.body.specs.declared.arms.Subject.{Subject}
 use Rattle.body.specs.declared.arms.Rest.{Rest}
 use Rattle.body.specs.declared.arms.Plan.{Plan}
 use Rattle.body.specs.declared.arms.Plan.TheVariants.{Plain, Match, Refused}
-use Rattle.state.specs.Given.{In-each}
+use Rattle.state.specs.Given.{InEach}
 
 -- the variant that is left, if it is one
 unfoldable pub rest : Rest → Option ℕ

@@ -20,7 +20,7 @@ use Rattle.body.specs.declared.arms.Plan.{Plan}
 use Rattle.body.specs.declared.arms.Plan.TheVariants.{Match, Refused}
 use Rattle.body.specs.declared.tries.Variant.{Variant}
 use Rattle.body.specs.declared.tries.Variant.TheVariants.{Of, Unknown}
-use Rattle.state.specs.Given.{In-each}
+use Rattle.state.specs.Given.{InEach}
 use Rattle.body.specs.Arms.{rest}
 
 -- an option as the code has it

@@ -14,7 +14,7 @@ use Rattle.statements.specs.Points.{point, Tells}
 use Rattle.statements.specs.declared.Out.{Out}
 use Rattle.body.specs.declared.items.Items.{Items}
 use Rattle.body.specs.declared.items.Passed.{Passed}
-use Rattle.state.specs.Given.{In-each}
+use Rattle.state.specs.Given.{InEach}
 
 -- THE ITEMS
 

@@ -23,14 +23,14 @@ use statements::small;
 use type_record::record::wide;
 
 // What a match is on: the place that the read at `read` uses, of the enum `typ`.
-#[derive(Drop)]
+#[derive(Clone, Copy)]
 pub struct Subject {
     pub read: usize,
     pub typ: usize,
 }
 
 // How many variants no arm took, and the last of them.
-#[derive(Drop)]
+#[derive(Clone, Copy)]
 pub struct Rest {
     pub left: usize,
     pub other: u32,
@@ -38,7 +38,7 @@ pub struct Rest {
 
 // How a block's targets open the state: not at all, by no match or by one on an array's element; or by a match on an enum, whose
 // otherwise target opens the one variant that is left, if it is one.
-#[derive(Drop)]
+#[derive(Clone, Copy)]
 pub enum Plan {
     Plain,
     Match { on: Subject, rest: Rest },

@@ -15,7 +15,7 @@ use Rattle.model.specs.State as Model
 use Rattle.model.specs.Place.{At}
 use Rattle.model.specs.Collect.{collects, unfoldss, folds_at_ret}
 use Rattle.model.specs.Frame.{mark}
-use Rattle.model.specs.Record.{Entry, point_entry, entries, statement_record, writable}
+use Rattle.model.specs.Record.{Entry, point_entry, statement_record, writable}
 use Rattle.model.specs.Calls.{written, call_collect, call_unfolds, call_folds}
 use Rattle.base.specs.Tests.{and_left}
 use Rattle.mir.specs.Parts.{is_some}

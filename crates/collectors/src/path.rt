@@ -18,7 +18,7 @@ pub fn set_item(ops: &mut [u32], args: &mut [u32], n: usize, op: u32, arg: usize
 }
 
 // From a node of this kind, open at this variant, to one of its children; full: below an enum the variant is named.
-#[derive(Drop)]
+#[derive(Clone, Copy)]
 pub struct Way {
     pub full: bool,
     pub kind: u32,

@@ -19,7 +19,7 @@ use Rattle.base.specs.Tests.{split, split_option, clash}
 use Rattle.base.specs.Answer.{split_answer, good_at}
 use Rattle.base.specs.Only.{Only, only_at}
 use Rattle.calls.specs.Numbers.{projection_refuses}
-use Rattle.calls.specs.Used.{call_used}
+use Rattle.calls.proofs.Used.{call_used}
 use Rattle.records.specs.Encode.{decode_holds}
 use Rattle.records.specs.Holds.{holds_encode}
 use Rattle.state.specs.Value.{value}

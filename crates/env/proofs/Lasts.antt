@@ -3,7 +3,6 @@ use mathlib.Core.Path.{◌≡◌, refl, sym, ◌∙◌, ap, subst}
 use mathlib.Core.Logic.{◌≢◌}
 use mathlib.Core.Bool.{true}
 use mathlib.Core.List.{List, ◌∷◌, ◌++◌}
-use mathlib.Core.Option.{some}
 use Prim.Native.Nat.{ℕ, ◌+◌, ◌-◌, ◌*◌, ◌<◌, ◌≤◌}
 use native.Mathlib.Omega.{arith}
 use native.Mathlib.Decide.{dec_lt}
@@ -20,7 +19,8 @@ use Rattle.base.specs.Typed.{Typed}
 use Rattle.base.specs.Answer.{good_at}
 use Rattle.laws.specs.Walked.{Keeps, nth_fit, walk_fit, enter_fit, opening_fit}
 use Rattle.laws.specs.Depth.{Deep}
-use Rattle.laws.specs.Levels.{nth_levels, cast_levels, carry_levels}
+use Rattle.laws.specs.Levels.{nth_levels, cast_levels}
+use Rattle.laws.proofs.Levels.{carry_levels}
 use Rattle.records.specs.Here.{Coded, Holds}
 use Rattle.records.specs.Codes.{size_pos}
 use Rattle.records.specs.Holds.{holds_few}

@@ -6,7 +6,7 @@ use Prim.Native.Nat.{ℕ, ◌+◌, ◌-◌, ◌<◌, ◌≤◌}
 use native.Mathlib.Omega.{arith}
 use lib.ListN.{length, get_or, length-append}
 use Rattle.model.specs.Answer.{refused, done, ◌>>=◌}
-use Rattle.model.specs.Tree.{Tree, leaf, node, Forest, sizes, type, unfolded}
+use Rattle.model.specs.Tree.{Tree, leaf, Forest, sizes, type, unfolded}
 use Rattle.model.specs.State.{Code, codes, codess}
 use Rattle.model.specs.Place.{Place, Spot, Fold, Unfold, At, base, walked, fold_ok}
 use Rattle.model.specs.Walk.{pick, walk, folding, carry, passed, projection, fitting}
@@ -14,9 +14,11 @@ use Rattle.model.specs.Calls.{recorded_as, recorded_verb}
 use Rattle.base.specs.Typed.{Typed}
 use Rattle.base.specs.Answer.{good_at}
 use Rattle.laws.specs.Places.{base_walked}
-use Rattle.laws.specs.Levels.{nth_levels, carry_levels}
+use Rattle.laws.specs.Levels.{nth_levels}
+use Rattle.laws.proofs.Levels.{carry_levels}
 use Rattle.laws.specs.Projected.{changed_goes}
-use Rattle.laws.specs.Projection.{projection_folds, projection_fits}
+use Rattle.laws.specs.Projection.{projection_folds}
+use Rattle.laws.proofs.Projection.{projection_fits}
 use Rattle.laws.specs.Recorded.{numbered}
 use Rattle.records.specs.Here.{Holds}
 use Rattle.records.specs.Codes.{length_codes, length_codess, size_pos}

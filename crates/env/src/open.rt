@@ -25,7 +25,7 @@ enum Last {
 }
 
 // One step more at the node reached, as an item: it stays at its node.
-#[derive(Drop)]
+#[derive(Clone, Copy)]
 struct More {
     op: u32,
     arg: u32,

@@ -19,8 +19,9 @@ use Rattle.solver.specs.Loop.{after, Falls, run_round}
 use Rattle.solver.specs.Lowest.{lowest_some}
 use Rattle.solver.specs.Termination.{Sound, solve_falls}
 use Rattle.solver.specs.Solution.{Solution, partial_opens, infer_solves}
-use Rattle.solver.specs.Told.{take_gives}
-use Rattle.solver.specs.Elaborate.{Under, elaborate_falls, under_opens}
+use Rattle.solver.proofs.Told.{take_gives}
+use Rattle.solver.specs.Elaborate.{Under, under_opens}
+use Rattle.solver.proofs.Elaborate.{elaborate_falls}
 use Rattle.demand.specs.States.{Ok}
 use Rattle.demand.specs.Whole.{Passed, lawful, entered}
 use Rattle.arrival.specs.Memory.{Memory, store_of, with_store, log_of, with_log, popped, enters}

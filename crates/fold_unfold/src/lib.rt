@@ -24,7 +24,7 @@ use statements::{finish, wipe};
 use type_record::check_types::check_types;
 
 // The counts of statements and entries, or the refusal.
-#[derive(Drop)]
+#[derive(Clone, Copy)]
 pub enum Ghosts {
     Done { statements: usize, entries: usize },
     Refused(u32),

@@ -16,7 +16,7 @@ use Rattle.base.specs.Tests.{split, clash}
 use Rattle.base.specs.Answer.{split_answer, good_at}
 use Rattle.base.specs.Only.{only_at}
 use Rattle.calls.specs.Numbers.{join_refuses}
-use Rattle.calls.specs.Joined.{call_joined}
+use Rattle.calls.proofs.Joined.{call_joined}
 use Rattle.mir.specs.Parts.{is_some}
 use Rattle.state.specs.Value.{value}
 use Rattle.state.specs.declared.nodes.State.{State}

@@ -20,8 +20,8 @@ use Rattle.base.specs.Only.{Only, only_done, only_require, only_at}
 use Rattle.base.specs.Words.{sets_lent}
 use Rattle.base.specs.Typed.{types_typed}
 use Rattle.moved.specs.Merged.{merged_long}
-use Rattle.moved.specs.Passing.{merged_passes}
-use Rattle.moved.specs.Linked.{merged_links}
+use Rattle.moved.proofs.Passing.{merged_passes}
+use Rattle.moved.proofs.Linked.{merged_links}
 use Rattle.merge.specs.Answers.{answered, Gives, Numbered}
 use Rattle.merge.specs.declared.Merged.{Merged}
 use Rattle.merge.specs.declared.Merged.TheVariants.{Done, Refused}

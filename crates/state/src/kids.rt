@@ -9,7 +9,7 @@ use crate::nodes::wide16;
 use type_record::record::{count_of, first_of, owner_of, part_at};
 
 // The children of an open node of type t at variant w: `count` parts of `owner` from part `first` on.
-#[derive(Drop)]
+#[derive(Clone, Copy)]
 pub struct Kids {
     pub owner: usize,
     pub first: usize,

@@ -9,7 +9,7 @@ ghost use Rattle.state.specs.Found.{Fields, Ends, EndsAll, LocalAt};
 use type_record::record::{count_of, first_of, owner_of, part_at, wide};
 
 // A state: form and variant of each node, in preorder, local after local. Every entry past the node count is zero.
-#[derive(Drop)]
+#[derive(Clone, Copy)]
 pub struct State {
     pub forms: [u16; 512],
     pub whats: [u16; 512],

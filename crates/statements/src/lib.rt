@@ -12,14 +12,14 @@ ghost use Rattle.statements.specs.Moved.{closed, cleared, Closable};
 pub mod numbers;
 
 // A point: an item, or the entry.
-#[derive(Drop)]
+#[derive(Clone, Copy)]
 pub struct Point {
     pub op: u32,
     pub arg: u32,
 }
 
 // What is recorded so far; whether the pass records, and the point of what it records next.
-#[derive(Drop)]
+#[derive(Clone, Copy)]
 pub struct Out {
     pub statements: usize,
     pub entries: usize,

@@ -21,8 +21,9 @@ use Rattle.base.specs.Answer.{split_answer}
 use Rattle.base.specs.Collected.{collect_none}
 use Rattle.base.specs.Function.{FunctionFacts}
 use Rattle.graph.specs.Ranges.{Holds}
-use Rattle.graph.specs.Enders.{last_holds, ender_on}
-use Rattle.graph.specs.Targets.{returns_none}
+use Rattle.graph.specs.Enders.{last_holds}
+use Rattle.graph.proofs.Enders.{ender_on}
+use Rattle.graph.proofs.Targets.{returns_none}
 use Rattle.body.specs.Uses.{uses}
 use Rattle.body.specs.Arms.{Planned, Behind}
 use Rattle.body.specs.declared.arms.Plan.{Plan}

@@ -19,7 +19,7 @@ use Rattle.base.specs.Function.{FunctionFacts, stop_inside, target_known}
 use Rattle.solver.specs.Lists.{Has, here, later, once_head, left_fall, left_most}
 use Rattle.solver.specs.Fuel.{Root, way_root, way_on, way_once, root_below}
 use Rattle.graph.specs.Ranges.{Holds}
-use Rattle.graph.specs.Targets.{frame_edges}
+use Rattle.graph.proofs.Targets.{frame_edges}
 use Rattle.visit.specs.Ways.{Come, Leaps}
 use Rattle.visit.specs.declared.block.Way.{Way}
 use Rattle.arrival.specs.declared.jump.Jump.{Jump}

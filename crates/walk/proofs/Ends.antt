@@ -13,7 +13,7 @@ use borrow.Author.Tests.{ne_eqb, ltb-true, ltb-false}
 use Rattle.model.specs.Words.{word}
 use Rattle.model.specs.Answer.{Answer, refused, done, ◌>>=◌}
 use Rattle.model.specs.Types.{kids}
-use Rattle.model.specs.Tree.{Tree, leaf, node, size, sizes, type, leaves}
+use Rattle.model.specs.Tree.{Tree, leaf, size, sizes, type, leaves}
 use Rattle.model.specs.State.{Code, codes}
 use Rattle.model.specs.Place.{Elem, deref, field, downcast, index, Place, Spot, stops, no_index}
 use Rattle.model.specs.Walk.{enter, opening, opened, inside, walk, reached, changed, passed}

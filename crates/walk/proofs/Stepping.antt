@@ -10,7 +10,7 @@ use lib.ListN.{length, get_or, take}
 use borrow.Author.Tests.{eq-eqb, ne_eqb}
 use Rattle.model.specs.Answer.{Answer, refused, done, ◌>>=◌}
 use Rattle.model.specs.Types.{ntypes, kind, count, pointer, kids, part, parts, owner, first, casts}
-use Rattle.model.specs.Tree.{Tree, node, Forest, sizes}
+use Rattle.model.specs.Tree.{Tree, node, Forest, size, sizes}
 use Rattle.model.specs.Typing.{Openable}
 use Rattle.model.specs.Place.{Elem, deref, field, downcast, index}
 use Rattle.model.specs.Walk.{child, inside, enter, opening, next, wide, pick}
@@ -50,9 +50,9 @@ module _ {Γ fs ws : List ℕ} where
       → CodedAll Γ fs ws i (take k ts) (firsts k xs)
   codes_firsts zero ts h c = none_coded
   codes_firsts (suc k) [] h c = absurd (not-suc-le-zero h)
-  codes_firsts (suc k) (t ∷ ts) h c =
+  codes_firsts {i = i} (suc k) (t ∷ ts) {xs = xs} h c =
       let s = coded_split c in
-      rw s.is (more_coded s.here (codes_firsts k ts (le_of_suc-le-suc h) s.rest))
+      rw s.is (more_coded s.here (codes_firsts {i = i + size (coded_split c).head} k ts (le_of_suc-le-suc h) s.rest))
 
   -- and the one behind them
   pub codes_pick : {i : ℕ} (k : ℕ) (ts : List ℕ) {xs : Forest} → k < length ts → CodedAll Γ fs ws i ts xs
@@ -62,9 +62,9 @@ module _ {Γ fs ws : List ℕ} where
   codes_pick zero (t ∷ ts) h c =
       let s = coded_split c in
       rw s.is (subst (λ (n : ℕ). Coded Γ fs ws n t s.head) (omega arith) s.here)
-  codes_pick (suc k) (t ∷ ts) h c =
+  codes_pick {i = i} (suc k) (t ∷ ts) {xs = xs} h c =
       let s = coded_split c in
-      rw s.is (subst (λ (n : ℕ). Coded Γ fs ws n (get_or ts k 0) (pick k s.tail)) (omega arith) (codes_pick k ts (le_of_suc-le-suc h) s.rest))
+      rw s.is (subst (λ (n : ℕ). Coded Γ fs ws n (get_or ts k 0) (pick k s.tail)) (omega arith) (codes_pick {i = i + size (coded_split c).head} k ts (le_of_suc-le-suc h) s.rest))
 
   -- the first k children of an open node, as parts
   pub fields_here : {i t : ℕ} {x : Tree} (o : Opened Γ fs ws i t x) (v u j k : ℕ) → v ≡ get_or ws i 0 → u ≡ owner Γ t v → j ≡ first Γ t

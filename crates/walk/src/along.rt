@@ -13,7 +13,7 @@ use type_record::record::kind_of;
 
 // What a walk has found: the elements walked, counted with the root, and those passed before the step that first changed the
 // tree (as many if none did); the node where the open nodes end, and its type; what the walk has opened from there.
-#[derive(Drop)]
+#[derive(Clone, Copy)]
 pub struct Walk {
     pub walked: usize,
     pub passed: usize,

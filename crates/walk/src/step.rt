@@ -87,7 +87,7 @@ pub fn step_open<'a>(
 
 // A node that the walk has come to by types alone: its type, whether the walk has opened it, at which variant; the nodes that
 // the walk has added so far.
-#[derive(Drop)]
+#[derive(Clone, Copy)]
 pub struct Fresh {
     pub typ: usize,
     pub opened: bool,

@@ -12,7 +12,7 @@ use Rattle.model.specs.Passes.{Found}
 use Rattle.model.specs.Block.{entry_point}
 use Rattle.model.specs.Record.{record_length, statement_record, lent}
 use Rattle.model.specs.Whole.{Result, accepted, denied, result, found, whole}
-use Rattle.model.specs.Crate.{behind, records, spare, stopped_at, calls, from_first}
+use Rattle.model.specs.Crate.{records, spare, stopped_at, calls, from_first}
 use Rattle.base.specs.Tests.{clash}
 use Rattle.base.specs.Answer.{split_answer}
 use Rattle.records.specs.Recorded.{length_record}

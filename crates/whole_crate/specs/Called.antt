@@ -1,5 +1,5 @@
 -- What the call leaves, and its parts.
-use Rattle.std.specs.Prelude.{◌≡◌, ◌≢◌, List, ℕ, ◌-◌, ◌≤◌, length, take, drop, replicate}
+use Rattle.std.specs.Prelude.{◌≡◌, ◌≢◌, List, ℕ, ◌≤◌, length, take, drop, replicate}
 use Rattle.model.specs.Words.{word}
 use Rattle.model.specs.Crate.{records, spare, Verdict, passed, stopped, Outcome, stopped_at, from_first, crate_statements}
 use Rattle.model.specs.Promised.{RefusedAt}

@@ -1,0 +1,14 @@
+-- `blocks::place::places_ok` meets its contract: the places before item i have passed, and root is the last root before it.
+-- Assumes nothing.
+use mathlib.Core.Path.{◌≡◌}
+use mathlib.Core.Bool.{true}
+use Prim.Native.Nat.{◌-◌, ◌≤◌}
+use Rattle.model.specs.Words.{all}
+use Rattle.model.specs.Block.{root_before, place_ok}
+use Rattle.blocks.proofs.place.places_ok.Given as goal
+
+abbrev pub invariant-loop-i : goal.invariant-loop-i
+invariant-loop-i l = (l.i ≤ l.n) × (l.root ≡ root_before l.fun l.i) × (all (place_ok l.fun) l.i ≡ true)
+
+abbrev pub decreases-loop-i : goal.decreases-loop-i
+decreases-loop-i l = l.n - l.i

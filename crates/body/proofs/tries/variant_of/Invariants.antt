@@ -1,0 +1,11 @@
+-- `body::tries::variant_of` meets its contract: the variant of the value is the one among those from v on.
+use mathlib.Core.Path.{◌≡◌}
+use Prim.Native.Nat.{◌-◌}
+use Rattle.model.specs.Body.{variants_from, variants, variant_of}
+use Rattle.body.proofs.tries.variant_of.Given as goal
+
+abbrev pub invariant-loop-v : goal.invariant-loop-v
+invariant-loop-v l = variant_of l.x (variants l.types l.t) ≡ variant_of l.x (variants_from l.types l.t (l.n - l.v) l.v)
+
+abbrev pub decreases-loop-v : goal.decreases-loop-v
+decreases-loop-v l = l.n - l.v

@@ -1,0 +1,51 @@
+-- `fold_unfold::run::analyse` meets its contract: zeros are the memory before the first pass, what that leaves is the memory before the
+-- second, and both are model's.
+use mathlib.Core.Path.{refl}
+use Prim.Native.Nat.{ℕ}
+use mathlib.Core.List.{List}
+use native.Mathlib.Omega.{arith}
+use lib.ListN.{length-replicate}
+use Rattle.demand.specs.Whole.{Passed}
+use Rattle.state.specs.Given.{Accepted}
+use Rattle.fold_unfold.specs.Runs.{blank, again}
+use Rattle.fold_unfold.proofs.Begun.{zeros_remembered}
+use Rattle.fold_unfold.proofs.Both.{first_sound, first_stops, first_goes, second_begins, second_ends}
+use Rattle.fold_unfold.proofs.run.analyse.Goals as goal
+
+-- both records pass
+passed : {Γ os fn : List ℕ} → Accepted Γ os fn → Passed Γ fn
+passed A = record { types = A.ready.typed; function = A.function; places = A.places }
+
+pub invert-requires : goal.invert-requires
+invert-requires c = record { formed = c.requires.accepted.formed; in_bounds = omega arith }
+
+pub run-v-requires : goal.run-v-requires
+run-v-requires c =
+    let p = c.requires in
+    record {
+      accepted = p.accepted;
+      shared = p.shared;
+      inverted = c.invert.ensures;
+      in_bounds = omega (arith, length-replicate {A = ℕ} 512 0);
+      begins = record { memory = blank; is = zeros_remembered p.wiped p.store_long; starts = refl; goes = first_sound (passed p.accepted) };
+    }
+
+pub returns-in_default : goal.returns-in_default
+returns-in_default c = first_stops (c.run-v.ensures blank refl (zeros_remembered c.requires.wiped c.requires.store_long)) c.in_default.is
+
+pub run-requires : goal.run-requires
+run-requires c =
+    let p = c.requires in
+    record {
+      accepted = p.accepted;
+      shared = p.shared;
+      inverted = c.invert.ensures;
+      in_bounds = omega (arith, c.run-v.auto.memo, length-replicate {A = ℕ} 512 0);
+      begins = second_begins (first_goes (c.run-v.ensures blank refl (zeros_remembered p.wiped p.store_long)) c.in-Over.is) (passed p.accepted);
+    }
+
+pub returns : goal.returns
+returns c =
+    let E = c.run-v.ensures blank refl (zeros_remembered c.requires.wiped c.requires.store_long) in
+    let H = first_goes E c.in-Over.is in
+    second_ends H (c.run.ensures (again H.memory.kept) (H.memory.kept, refl, H.inferred) H.remembers) E.same_forms E.same_whats E.same_out

@@ -1,0 +1,307 @@
+-- The cycle of calls {basic_block, goto, terminator} meets its contracts. `basic_block`: its items are passed, and it returns or is left by
+-- its targets, by the laws of `Entering`. `goto`: a join point is met, any other block is entered, and the way has not entered it, by those
+-- of `Steps`. `terminator`: all arms are tried, then each target item is a jump of the way, by those of `Leaving`.
+use mathlib.Core.Path.{◌≡◌, refl, sym, ap, ◌∙◌, subst}
+use mathlib.Core.Bool.{Bool}
+use mathlib.Core.List.{List}
+use Prim.Native.Nat.{ℕ, suc, ◌-◌, ◌<◌, ◌≤◌}
+use native.Mathlib.Omega.{arith}
+use Rattle.model.specs.Answer.{refused}
+use Rattle.model.specs.Function.{nblocks, start, stop, op}
+use Rattle.base.specs.Function.{stop_inside}
+use Rattle.graph.specs.Ranges.{Holds as InBlock}
+use Rattle.blocks.proofs.Spots.{formed_accepted}
+use Rattle.arrival.specs.Memory as Memory
+use Rattle.arrival.specs.Memory.{departs}
+use Rattle.arrival.specs.Visits.{exit}
+use Rattle.arrival.proofs.Memo.{alike_in}
+use Rattle.arrival.proofs.Heard.{telling, spoken_told, spoken_own, stated, ongoing_as}
+use Rattle.arrival.proofs.Shelves.{share_joins, none_joins}
+use Rattle.visit.proofs.Ways.{leaps_come, come_leaps}
+use Rattle.visit.proofs.Steps.{returns_is, returns_not, target_behind, jumps_meet, jumps_enter}
+use Rattle.visit.proofs.Entering.{alike_same, alike_then, told_remembers, visits_pen, visits_refused, passes_block, passes_gone, enter_refused, enter_over, enter_leave, enters_departs}
+use Rattle.visit.proofs.Leaving.{left_start, left_skip, left_next, left_over, left_refused, left_end, aimed_refused}
+use Rattle.visit.proofs.block.+basic_block_goto_terminator.Goals as goal
+use Rattle.visit.proofs.block.+basic_block_goto_terminator.Goals.{terminator-then-op_of-eq10+in-Over, terminator-else-op_of-eq10}
+
+-- A BLOCK THAT IS ENTERED
+
+pub basic_block-pass_items-r-requires-clause-within : goal.basic_block-pass_items-r-requires-clause-within
+basic_block-pass_items-r-requires-clause-within t c =
+    let A = formed_accepted c.requires.accepted.formed in
+    record {
+      order = omega (arith, c.start_of-from.ensures, c.stop_of-end.ensures, A.starts _ c.requires.come.known);
+      inside = omega (arith, c.stop_of-end.ensures, stop_inside A c.args.w.block);
+    }
+
+pub basic_block-returns-then-r-ne0 : goal.basic_block-returns-then-r-ne0
+basic_block-returns-then-r-ne0 t c = λ m E R N H.
+    enter_refused c.args.w.left c.requires.come.known E m (passes_block E c.args.w.block c.start_of-from.ensures c.stop_of-end.ensures (c.pass_items-r.ensures E H)) c.if-r-ne0.true
+
+pub basic_block-overflow_sub-end : goal.basic_block-overflow_sub-end
+basic_block-overflow_sub-end t c =
+    omega (arith, c.stop_of-end.ensures, (formed_accepted c.requires.accepted.formed).starts _ c.requires.come.known)
+
+pub basic_block-op_of-requires-clause-i_bound : goal.basic_block-op_of-requires-clause-i_bound
+basic_block-op_of-requires-clause-i_bound t c =
+    let A = formed_accepted c.requires.accepted.formed in
+    omega (arith, c.stop_of-end.ensures, A.starts _ c.requires.come.known, stop_inside A c.args.w.block)
+
+pub basic_block-overflow_sub-end-then-op_of-eq11 : goal.basic_block-overflow_sub-end-then-op_of-eq11
+basic_block-overflow_sub-end-then-op_of-eq11 t c =
+    omega (arith, c.stop_of-end.ensures, (formed_accepted c.requires.accepted.formed).starts _ c.requires.come.known)
+
+pub basic_block-returned-requires-clause-i_bound : goal.basic_block-returned-requires-clause-i_bound
+basic_block-returned-requires-clause-i_bound t c =
+    let A = formed_accepted c.requires.accepted.formed in
+    omega (arith, c.stop_of-end.ensures, A.starts _ c.requires.come.known, stop_inside A c.args.w.block)
+
+pub basic_block-returned-requires-clause-stated : goal.basic_block-returned-requires-clause-stated
+basic_block-returned-requires-clause-stated t c =
+    let o = c.requires.ongoing in
+    let (w, u, G) = passes_gone (passes_block o.state c.args.w.block c.start_of-from.ensures c.stop_of-end.ensures (c.pass_items-r.ensures o.state o.holds)) c.if-r-ne0.false in
+    record { state = w.0; holds = G.state }
+
+pub basic_block-returned-requires-clause-counted : goal.basic_block-returned-requires-clause-counted
+basic_block-returned-requires-clause-counted t c =
+    let o = c.requires.ongoing in
+    let (w, u, G) = passes_gone (passes_block o.state c.args.w.block c.start_of-from.ensures c.stop_of-end.ensures (c.pass_items-r.ensures o.state o.holds)) c.if-r-ne0.false in
+    (spoken_told o.spoken G.lines).counted
+
+pub basic_block-returns-then-op_of-eq11 : goal.basic_block-returns-then-op_of-eq11
+basic_block-returns-then-op_of-eq11 t c = λ m E R N H.
+    let a = c.args in
+    let p = c.requires in
+    let e = c.stop_of-end.ensures in
+    let (w, u, G) = passes_gone (passes_block E a.w.block c.start_of-from.ensures e (c.pass_items-r.ensures E H)) c.if-r-ne0.false in
+    enter_over a.w.left p.come.known E m (formed_accepted p.accepted.formed) u G.lines (ap (λ (i : ℕ). i - 1) e)
+    (returns_is _ _ (ap (λ (i : ℕ). op a.fun.now (i - 1)) (sym e) ∙ sym c.op_of.ensures ∙ c.if-op_of-eq11.true)) R N (c.returned.ensures w.0 G.state)
+
+pub basic_block-terminator-requires : goal.basic_block-terminator-requires
+basic_block-terminator-requires t c =
+    let a = c.args in
+    let p = c.requires in
+    let o = p.ongoing in
+    let r = a.o.recording in
+    let (w, u, G) = passes_gone (passes_block o.state a.w.block c.start_of-from.ensures c.stop_of-end.ensures (c.pass_items-r.ensures o.state o.holds)) c.if-r-ne0.false in
+    let S = spoken_told o.spoken G.lines in
+    let m = telling r w.1 o.memory in
+    let e = enters_departs a.types.now a.fun.now r a.w.left a.w.block p.come.known o.state o.memory u
+    (returns_not _ _ (λ d. c.if-op_of-eq11.false (c.op_of.ensures ∙ ap (λ (i : ℕ). op a.fun.now (i - 1)) c.stop_of-end.ensures ∙ d))) in (
+      omega (arith, c.decreases),
+      (
+        p.accepted,
+        (
+          p.shared,
+          (
+            record {
+              memory = m;
+              is = told_remembers r w.1 o.is;
+              spoken = spoken_own S;
+              state = w.0;
+              holds = G.state;
+              goes = λ d. o.goes (e ∙ subst (λ (b : Bool). departs a.types.now a.fun.now b a.w.left a.w.block w.0 m ≡ refused 0) S.pen d);
+            },
+            p.come,
+          ),
+        ),
+      ),
+    )
+
+pub basic_block-returns : goal.basic_block-returns
+basic_block-returns t c = λ m E R N H.
+    let a = c.args in
+    let p = c.requires in
+    let r = a.o.recording in
+    let (w, u, G) = passes_gone (passes_block E a.w.block c.start_of-from.ensures c.stop_of-end.ensures (c.pass_items-r.ensures E H)) c.if-r-ne0.false in
+    let S = spoken_told N G.lines in
+    enter_leave a.w.left p.come.known E m (formed_accepted p.accepted.formed) u G.lines
+    (returns_not _ _ (λ d. c.if-op_of-eq11.false (c.op_of.ensures ∙ ap (λ (i : ℕ). op a.fun.now (i - 1)) c.stop_of-end.ensures ∙ d)))
+    (visits_pen (λ b. departs a.types.now a.fun.now b a.w.left a.w.block w.0 (telling r w.1 m)) S.pen
+    (c.terminator.ensures (telling r w.1 m) w.0 (told_remembers r w.1 R) (spoken_own S) G.state))
+
+-- A JUMP
+
+pub goto-meet-requires-clause-ongoing : goal.goto-meet-requires-clause-ongoing
+goto-meet-requires-clause-ongoing t c =
+    let a = c.args in
+    let p = c.requires in
+    let O = p.ongoing in
+    let J = share_joins _ _ (λ z. c.if-points-c-ne0.true (p.shared.numbers _ p.leaps.known ∙ z)) in
+    ongoing_as O (jumps_meet a.types.now a.fun.now a.o.recording a.j.left (exit a.fun.now a.j.entry a.j.item a.j.block O.state) O.memory J)
+
+pub goto-meet-requires-clause-block_value : goal.goto-meet-requires-clause-block_value
+goto-meet-requires-clause-block_value t c =
+    let p = c.requires in
+    share_joins _ _ (λ z. c.if-points-c-ne0.true (p.shared.numbers _ p.leaps.known ∙ z))
+
+pub goto-returns-then-points-c-ne0 : goal.goto-returns-then-points-c-ne0
+goto-returns-then-points-c-ne0 t c = λ m E R N H.
+    let a = c.args in
+    let p = c.requires in
+    let J = share_joins _ _ (λ z. c.if-points-c-ne0.true (p.shared.numbers _ p.leaps.known ∙ z)) in
+    rw (jumps_meet a.types.now a.fun.now a.o.recording a.j.left (exit a.fun.now a.j.entry a.j.item a.j.block E) m J)
+    (c.meet.ensures m E R N H)
+
+pub goto-overflow_sub-w : goal.goto-overflow_sub-w
+goto-overflow_sub-w t c =
+    let p = c.requires in
+    let J = none_joins _ _ (sym (p.shared.numbers _ p.leaps.known) ∙ c.if-points-c-ne0.false) in
+    omega (arith, (leaps_come (formed_accepted p.accepted.formed) p.leaps J).0)
+
+pub goto-basic_block-requires : goal.goto-basic_block-requires
+goto-basic_block-requires t c =
+    let a = c.args in
+    let p = c.requires in
+    let O = p.ongoing in
+    let J = none_joins _ _ (sym (p.shared.numbers _ p.leaps.known) ∙ c.if-points-c-ne0.false) in
+    let (l, C) = leaps_come (formed_accepted p.accepted.formed) p.leaps J in
+    let e : a.j.left ≡ suc (a.j.left - 1) = omega (arith, l) in (
+      omega (arith, l, c.decreases),
+      (
+        p.accepted,
+        (
+          p.shared,
+          (
+            ongoing_as O (jumps_enter a.types.now a.fun.now a.o.recording a.j.left (exit a.fun.now a.j.entry a.j.item a.j.block O.state) O.memory J
+                ∙ ap (λ (n : ℕ). Memory.enters a.types.now a.fun.now a.o.recording n a.j.block O.state O.memory) e),
+            C,
+          ),
+        ),
+      ),
+    )
+
+pub goto-returns : goal.goto-returns
+goto-returns t c = λ m E R N H.
+    let a = c.args in
+    let p = c.requires in
+    let J = none_joins _ _ (sym (p.shared.numbers _ p.leaps.known) ∙ c.if-points-c-ne0.false) in
+    let z : suc (a.j.left - 1) ≡ a.j.left = omega (arith, (leaps_come (formed_accepted p.accepted.formed) p.leaps J).0) in
+    rw (jumps_enter a.types.now a.fun.now a.o.recording a.j.left (exit a.fun.now a.j.entry a.j.item a.j.block E) m J)
+    (rw z at (c.basic_block.ensures m E R N H))
+
+-- A BLOCK THAT IS LEFT
+
+-- the item at hand is one of the block
+item_holds : {fn : List ℕ} {b i e : ℕ} → b < nblocks fn → start fn b ≤ i → i < e → e ≡ stop fn b → InBlock fn b i
+item_holds k l h e = record { block = k; low = l; high = omega (arith, h, e) }
+
+pub terminator-returns-in-Refused : goal.terminator-returns-in-Refused
+terminator-returns-in-Refused t c = λ m E R N H.
+    visits_refused (rw ((c.plan_of-p.ensures E H).refuses _ c.in-Refused.is) refl) (alike_same _) refl
+
+pub terminator-loop-i-init : goal.terminator-loop-i-init
+terminator-loop-i-init t c =
+    let p = c.requires in
+    let z = c.start_of-i.ensures in
+    let l = p.come.known in (
+      record {
+        low = omega (arith, z);
+        high = omega (arith, z, (formed_accepted p.accepted.formed).starts _ l);
+        alike = alike_same _;
+        same = refl;
+        left = λ m E R N H. rw z (left_start l (c.plan_of-p.ensures E H) c.in_default.not-Refused R N);
+      },
+      refl,
+    )
+
+pub terminator-op_of-requires : goal.terminator-op_of-requires
+terminator-op_of-requires t c =
+    let p = c.requires in
+    record { laid = p.accepted.formed.laid; i_bound = omega (arith, c.loop-i-test.true, c.stop_of-end.ensures, stop_inside (formed_accepted p.accepted.formed) c.args.w.block) }
+
+pub terminator-target_state-u-requires : goal.terminator-target_state-u-requires
+terminator-target_state-u-requires t c =
+    let p = c.requires in
+    let A = formed_accepted p.accepted.formed in
+    let h = p.ongoing in
+    let I = c.loop-i.invariant.0 in
+    let b = item_holds p.come.known I.low c.loop-i-test.true c.stop_of-end.ensures in
+    let d = sym c.op_of.ensures ∙ c.if-op_of-eq10.true in
+    let N = left_next (I.left h.memory h.state h.is h.spoken h.holds) b.high d in
+    let P = c.plan_of-p.ensures _ h.holds in
+    record {
+      accepted = p.accepted;
+      i_bound = omega (arith, b.high, stop_inside A c.args.w.block);
+      stated = stated h;
+      leaves = record { state = h.state; holds = h.holds; sound = P.sound; behind = target_behind A p.come.known b d P; left = N.state; leaves = N.by };
+    }
+
+pub terminator-arg_of-requires : goal.terminator-arg_of-requires
+terminator-arg_of-requires t c =
+    let p = c.requires in
+    record { laid = p.accepted.formed.laid; i_bound = omega (arith, c.loop-i-test.true, c.stop_of-end.ensures, stop_inside (formed_accepted p.accepted.formed) c.args.w.block) }
+
+pub terminator-goto-v-requires : goal.terminator-goto-v-requires
+terminator-goto-v-requires t c =
+    let p = c.requires in
+    let h = p.ongoing in
+    let I = c.loop-i.invariant.0 in
+    let b = item_holds p.come.known I.low c.loop-i-test.true c.stop_of-end.ensures in
+    let d = sym c.op_of.ensures ∙ c.if-op_of-eq10.true in
+    let aim = c.wide.ensures ∙ c.arg_of.ensures in
+    let L = I.left h.memory h.state h.is h.spoken h.holds in
+    let N = left_next L b.high d in (
+      omega (arith, c.decreases),
+      (
+        p.accepted,
+        (
+          p.shared,
+          (
+            record {
+              memory = L.memory;
+              is = L.is;
+              spoken = spoken_own L.spoken;
+              state = N.state;
+              holds = c.target_state-u.ensures h.state h.holds N.state N.by;
+              goes = λ k. h.goes (aimed_refused N L.spoken.pen aim k);
+            },
+            rw aim (come_leaps (formed_accepted p.accepted.formed) p.come b d),
+          ),
+        ),
+      ),
+    )
+
+pub terminator-returns-in-Refused-v : goal.terminator-returns-in-Refused-v
+terminator-returns-in-Refused-v t c = λ m E R M H.
+    let I = c.loop-i.invariant.0 in
+    let b = item_holds c.requires.come.known I.low c.loop-i-test.true c.stop_of-end.ensures in
+    let L = I.left m E R M H in
+    let N = left_next L b.high (sym c.op_of.ensures ∙ c.if-op_of-eq10.true) in
+    left_refused L N (c.wide.ensures ∙ c.arg_of.ensures) c.in-Refused-v.is
+    (c.goto-v.ensures L.memory N.state L.is (spoken_own L.spoken) (c.target_state-u.ensures E H N.state N.by))
+
+pub terminator-loop-i-preserved : goal.terminator-loop-i-preserved
+terminator-loop-i-preserved t c =
+    let I = c.loop-i.invariant.0 in
+    let h = (item_holds c.requires.come.known I.low c.loop-i-test.true c.stop_of-end.ensures).high in
+    elim c.if-op_of-eq10.branch [
+      | terminator-then-op_of-eq10+in-Over w ↦ rw (w.memo-is, w.waits-is, w.forms-is, w.whats-is, w.out-is, w.q-is) (
+        record {
+          low = omega (arith, I.low);
+          high = omega (arith, h);
+          alike = alike_then I.alike (alike_in c.loop-i.memo w.goto-v.new.memo w.goto-v.auto.memo w.goto-v.auto.waits w.goto-v.auto.forms w.goto-v.auto.whats);
+          same = w.goto-v.auto.out ∙ I.same;
+          left = λ m E R S H.
+              let L = I.left m E R S H in
+              let N = left_next L h (sym c.op_of.ensures ∙ w.if-op_of-eq10.true) in
+              left_over L N (w.wide.ensures ∙ w.arg_of.ensures) w.in-Over.is
+              (w.goto-v.ensures L.memory N.state L.is (spoken_own L.spoken) (w.target_state-u.ensures E H N.state N.by));
+        },
+        w.goto-v.auto.memo ∙ c.loop-i.invariant.1,
+      )
+      | terminator-else-op_of-eq10 w ↦ rw (w.memo-is, w.waits-is, w.forms-is, w.whats-is, w.out-is, w.q-is) (
+        record {
+          low = omega (arith, I.low);
+          high = omega (arith, h);
+          alike = I.alike;
+          same = I.same;
+          left = λ m E R S H. left_skip (I.left m E R S H) h (λ d. w.if-op_of-eq10.false (c.op_of.ensures ∙ d));
+        },
+        c.loop-i.invariant.1,
+      )
+    ]
+
+pub terminator-returns : goal.terminator-returns
+terminator-returns t c = λ m E R N H.
+    left_end (c.loop-i.invariant.0.left m E R N H) (omega (arith, c.loop-i-test.false, c.stop_of-end.ensures))
