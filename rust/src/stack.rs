@@ -3,11 +3,11 @@
 
 use std::thread;
 
-/// Up to so many blocks the call runs on the caller's thread. It then takes at most 540 KB of its
+/// Up to so many blocks the call runs on the caller's thread. It then takes at most 456 KB of its
 /// stack.
 pub const CALLERS_BLOCKS: usize = 32;
 
-/// The stack of the thread for more blocks, in bytes: over twice the 1,712 KB that the deepest chain
+/// The stack of the thread for more blocks, in bytes: over twice the 1,696 KB that the deepest chain
 /// takes, 256 blocks with a state of 511 nodes (`cargo run --release -p compare --bin stack` measures
 /// it).
 pub const STACK: usize = 5 << 20;

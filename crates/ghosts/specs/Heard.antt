@@ -1,6 +1,5 @@
 -- A text that is read, whatever bytes each read brings.
-use Rattle.std.specs.Prelude.{◌≡◌, Bool, false, true, List, ℕ, length, take, ℤ, pos, negsuc, eqb, ltb}
-use Rattle.io.specs.Counts.{clamp_len}
+use Rattle.std.specs.Prelude.{◌≡◌, Bool, false, true, List, ℕ, length, take, min, ℤ, pos, negsuc, eqb, ltb}
 use Rattle.model.specs.Ghosts.{scan}
 use Rattle.text.specs.declared.scan.Scan.{Scan}
 use Rattle.text.specs.Reading.{Steps}
@@ -11,6 +10,11 @@ use Rattle.ghosts.specs.declared.More.{More}
 pub record Hears (s : Scan) (words : List ℕ) (r : Scan) (after : List ℕ) : Type 0 where
   pub piece : List ℕ
   pub steps : Steps (scan piece) s words r after
+
+-- what a read answered, as a number of the buffer's bytes
+abbrev pub clamp_len : ℤ → ℕ → ℕ
+clamp_len (pos k) most = min k most
+clamp_len (negsuc k) most = 0
 
 -- a read answered that bytes came
 unfoldable pub some_came : ℤ → Bool

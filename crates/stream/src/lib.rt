@@ -4,8 +4,6 @@
 ghost use Rattle.std.specs.Prelude.{◌≡◌, ◌≤◌, ◌<◌, length};
 ghost use Rattle.stream.specs.Filled.{Filled, Past};
 
-use libc::STDOUT_FILENO;
-
 // Room for the words of a line.
 pub fn room() -> [u32; 65536]
     ensures { length result ≡ 65536 }
@@ -120,9 +118,9 @@ pub fn list_end(words: &[u32], at: usize) -> usize
     if k <= left { at + 1 + k } else { n }
 }
 
-pub fn print_number(n: usize) {
-    io::print_decimal(STDOUT_FILENO, n as u64);
-    print_text(b" ");
+pub fn print_number(rt: &impl Print, n: usize) {
+    let _ = rt.print(n);
+    print_text(rt, b" ");
 }
 
 // How many words there are up to the last that is not 0.
@@ -137,12 +135,12 @@ fn used(a: &[u32]) -> usize
 }
 
 // Words without the zeros at their end, behind a bar.
-pub fn print_words(a: &[u32]) {
+pub fn print_words(rt: &impl Print, a: &[u32]) {
     let n = used(a);
-    print_text(b"| ");
+    print_text(rt, b"| ");
     let mut i = 0;
     while i < n {
-        print_number(wide(a[i]));
+        print_number(rt, wide(a[i]));
         i += 1;
     }
 }
@@ -163,16 +161,17 @@ fn used16(a: &[u16]) -> usize
     n
 }
 
-pub fn print_halves(a: &[u16]) {
+pub fn print_halves(rt: &impl Print, a: &[u16]) {
     let n = used16(a);
-    print_text(b"| ");
+    print_text(rt, b"| ");
     let mut i = 0;
     while i < n {
-        print_number(wide16(a[i]));
+        print_number(rt, wide16(a[i]));
         i += 1;
     }
 }
 
-pub fn print_text(s: &[u8]) {
-    io::write_all(STDOUT_FILENO, s);
+// What cannot be written is let go.
+pub fn print_text(rt: &impl Print, s: &[u8]) {
+    let _ = rt.write_all(s);
 }

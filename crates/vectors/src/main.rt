@@ -13,11 +13,11 @@ mod places;
 mod states;
 mod whole;
 
-use libc::STDIN_FILENO;
+use std::io::Read;
 use stream::{Reader, end_word, idle, print_text, room, step};
 
 // The case of a line: which call, then its input.
-fn answer(words: &[u32]) {
+fn answer(rt: &impl Print, words: &[u32]) {
     if words.len() == 0 {
         return;
     }
@@ -25,20 +25,20 @@ fn answer(words: &[u32]) {
     let call = words[0];
     let rest = &words[1..n];
     match call {
-        1 => checks::types(rest),
-        2 => checks::function(rest),
-        3 => whole::call(call, rest),
-        4..=7 => places::call(call, rest),
-        12 => items::call(rest),
-        13 => whole::call(call, rest),
-        14 => merges::call(rest),
-        _ => states::call(call, rest),
+        1 => checks::types(rt, rest),
+        2 => checks::function(rt, rest),
+        3 => whole::call(rt, call, rest),
+        4..=7 => places::call(rt, call, rest),
+        12 => items::call(rt, rest),
+        13 => whole::call(rt, call, rest),
+        14 => merges::call(rt, rest),
+        _ => states::call(rt, call, rest),
     }
-    print_text(b"\n");
+    print_text(rt, b"\n");
 }
 
 // A byte more; at the end of a line its case is answered.
-fn next(r: Reader, c: u8, words: &mut [u32]) -> Reader
+fn next(rt: &impl Print, r: Reader, c: u8, words: &mut [u32]) -> Reader
     requires { r.total ≤ length words.old }
     ensures { Filled words.old result.total words.new }
 {
@@ -47,11 +47,11 @@ fn next(r: Reader, c: u8, words: &mut [u32]) -> Reader
     }
     let s = end_word(r, words);
     let n = s.total;
-    answer(&words[..n]);
+    answer(rt, &words[..n]);
     idle(0)
 }
 
-fn feed(r: Reader, text: &[u8], words: &mut [u32]) -> Reader
+fn feed(rt: &impl Print, r: Reader, text: &[u8], words: &mut [u32]) -> Reader
     requires { r.total ≤ length words.old }
     ensures { Filled words.old result.total words.new }
 {
@@ -59,33 +59,32 @@ fn feed(r: Reader, text: &[u8], words: &mut [u32]) -> Reader
     let mut s = r;
     let mut i = 0;
     while i < n {
-        s = next(s, text[i], words);
+        s = next(rt, s, text[i], words);
         i += 1;
     }
     s
 }
 
-// One read: going is false at the end of the input.
+// One read: going is false at the end of the input, and where a read failed.
 #[derive(Drop)]
 struct More {
     reader: Reader,
     going: bool,
 }
 
-fn read_some(r: Reader, words: &mut [u32]) -> More
+fn read_some(rt: &impl Print, input: &mut impl Read, r: Reader, words: &mut [u32]) -> More
     requires { r.total ≤ length words.old }
     ensures { Filled words.old result.reader.total words.new }
 {
     let mut buf = [0u8; 4096];
-    let got = libc::read(STDIN_FILENO, &mut buf);
-    if got <= 0 {
+    let n = input.read(&mut buf).unwrap_or(0);
+    if n == 0 {
         return More {
             reader: r,
             going: false,
         };
     }
-    let n = io::count(got, &buf);
-    let s = feed(r, &buf[..n], words);
+    let s = feed(rt, r, &buf[..n], words);
     More {
         reader: s,
         going: true,
@@ -93,7 +92,7 @@ fn read_some(r: Reader, words: &mut [u32]) -> More
 }
 
 // The turns are counted down from a number that no run uses up, since nothing says that an input ends.
-fn main() {
+fn main(rt: HostRuntime) {
     let mut words = room();
     let mut m = More {
         reader: idle(0),
@@ -103,6 +102,6 @@ fn main() {
     while 0 < turns && m.going {
         turns -= 1;
         let r = m.reader;
-        m = read_some(r, &mut words);
+        m = read_some(&rt, &mut rt.stdin(), r, &mut words);
     }
 }

@@ -5,22 +5,22 @@ use merge::{Merged, merge_types};
 use stream::{print_number, print_words};
 use type_record::record::wide;
 
-fn answered(first: &[u32], second: &[u32], out: &mut [u32]) {
+fn answered(rt: &impl Print, first: &[u32], second: &[u32], out: &mut [u32]) {
     let r = merge_types(first, second, out);
     match r {
-        Merged::Refused(n) => print_number(wide(n)),
+        Merged::Refused(n) => print_number(rt, wide(n)),
         Merged::Done(n) => {
-            print_number(0);
-            print_number(n);
+            print_number(rt, 0);
+            print_number(rt, n);
         }
     }
-    print_words(out);
+    print_words(rt, out);
 }
 
 // The length of the output, then both records.
-pub fn call(words: &[u32]) {
+pub fn call(rt: &impl Print, words: &[u32]) {
     let mut out = buffer();
     let o = least(number(words, 0, 0), 4096);
     let a = end_of(words, 1);
-    answered(list(words, 1), list(words, a), &mut out[..o]);
+    answered(rt, list(words, 1), list(words, a), &mut out[..o]);
 }

@@ -29,43 +29,44 @@ pub fn given(forms: &[u32], whats: &[u32], nodes: u32) -> State {
     }
 }
 
-pub fn print_state(s: State) {
+pub fn print_state(rt: &impl Print, s: State) {
     let f = s.forms;
     let w = s.whats;
-    print_halves(&f);
-    print_halves(&w);
-    print_number(s.nodes);
+    print_halves(rt, &f);
+    print_halves(rt, &w);
+    print_number(rt, s.nodes);
 }
 
-fn print_merged(m: Merged) {
+fn print_merged(rt: &impl Print, m: Merged) {
     let a = m.answer;
     match a {
-        Flag::Refused(n) => print_number(wide(n)),
+        Flag::Refused(n) => print_number(rt, wide(n)),
         Flag::Of(b) => {
-            print_number(0);
-            print_number(if b { 1 } else { 0 });
+            print_number(rt, 0);
+            print_number(rt, if b { 1 } else { 0 });
         }
     }
     let s = m.state;
-    print_state(s);
+    print_state(rt, s);
 }
 
-fn print_record(r: Record, out: &[u32]) {
+fn print_record(rt: &impl Print, r: Record, out: &[u32]) {
     match r {
-        Record::Refused(n) => print_number(wide(n)),
+        Record::Refused(n) => print_number(rt, wide(n)),
         Record::Done {
             statements,
             entries,
         } => {
-            print_number(0);
-            print_number(statements);
-            print_number(entries);
+            print_number(rt, 0);
+            print_number(rt, statements);
+            print_number(rt, entries);
         }
     }
-    print_words(out);
+    print_words(rt, out);
 }
 
 fn collected(
+    rt: &impl Print,
     call: u32,
     types: &[u32],
     locals: &[u32],
@@ -76,16 +77,16 @@ fn collected(
 ) {
     if call == 9 {
         let r = collect::collect_fold_unfolds(types, locals, s, e, out);
-        print_record(r, out);
+        print_record(rt, r, out);
         return;
     }
     if call == 10 {
         let r = collect::collect_unfolds(types, locals, s, out);
-        print_record(r, out);
+        print_record(rt, r, out);
         return;
     }
     let r = collect::collect_folds_at_ret(types, locals, wide(args), s, out);
-    print_record(r, out);
+    print_record(rt, r, out);
 }
 
 // How much of the buffer is lent.
@@ -98,7 +99,7 @@ fn least(n: u32) -> usize
 
 // Types, locals, forms, whats, forms and whats of the second state as lists; then both node counts, the number of arguments, the
 // length of the buffer.
-pub fn call(n: u32, words: &[u32]) {
+pub fn call(rt: &impl Print, n: u32, words: &[u32]) {
     let a = end_of(words, 0);
     let b = end_of(words, a);
     let c = end_of(words, b);
@@ -108,12 +109,13 @@ pub fn call(n: u32, words: &[u32]) {
     let s = given(list(words, b), list(words, c), number(words, f, 0));
     let t = given(list(words, d), list(words, e), number(words, f, 1));
     if n == 8 {
-        print_merged(join::join(list(words, 0), list(words, a), s, t));
+        print_merged(rt, join::join(list(words, 0), list(words, a), s, t));
         return;
     }
     let mut out = [7u32; 4096];
     let o = least(number(words, f, 3));
     collected(
+        rt,
         n,
         list(words, 0),
         list(words, a),

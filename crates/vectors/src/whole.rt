@@ -29,14 +29,15 @@ pub fn least(n: u32, most: usize) -> usize
 }
 
 // What was lent.
-fn print_lent(forms: &[u16], whats: &[u16], out: &[u32]) {
-    print_words(out);
-    print_halves(forms);
-    print_halves(whats);
+fn print_lent(rt: &impl Print, forms: &[u16], whats: &[u16], out: &[u32]) {
+    print_words(rt, out);
+    print_halves(rt, forms);
+    print_halves(rt, whats);
 }
 
 // The numbers stand last.
 fn function(
+    rt: &impl Print,
     types: &[u32],
     fun: &[u32],
     forms: &mut [u16],
@@ -46,33 +47,41 @@ fn function(
 ) {
     let r = ghost_statements(types, fun, forms, whats, out, told);
     match r {
-        Ghosts::Refused(n) => print_number(wide(n)),
+        Ghosts::Refused(n) => print_number(rt, wide(n)),
         Ghosts::Done {
             statements,
             entries,
         } => {
-            print_number(0);
-            print_number(statements);
-            print_number(entries);
+            print_number(rt, 0);
+            print_number(rt, statements);
+            print_number(rt, entries);
         }
     }
-    print_lent(forms, whats, out);
-    print_words(told);
+    print_lent(rt, forms, whats, out);
+    print_words(rt, told);
 }
 
-fn functions(types: &[u32], words: &[u32], forms: &mut [u16], whats: &mut [u16], out: &mut [u32]) {
+fn functions(
+    rt: &impl Print,
+    types: &[u32],
+    words: &[u32],
+    forms: &mut [u16],
+    whats: &mut [u16],
+    out: &mut [u32],
+) {
     let r = crate_statements(types, words, forms, whats, out);
     match r {
         Crate::Refused { number, position } => {
-            print_number(wide(number));
-            print_number(wide(position));
+            print_number(rt, wide(number));
+            print_number(rt, wide(position));
         }
-        Crate::Done => print_number(0),
+        Crate::Done => print_number(rt, 0),
     }
-    print_lent(forms, whats, out);
+    print_lent(rt, forms, whats, out);
 }
 
 fn answered(
+    rt: &impl Print,
     which: u32,
     types: &[u32],
     words: &[u32],
@@ -82,10 +91,10 @@ fn answered(
     told: &mut [u32],
 ) {
     if which == 3 {
-        function(types, words, forms, whats, out, told);
+        function(rt, types, words, forms, whats, out, told);
         return;
     }
-    functions(types, words, forms, whats, out);
+    functions(rt, types, words, forms, whats, out);
 }
 
 // How many lengths stand before the records: a crate has no array for numbers.
@@ -95,7 +104,7 @@ fn lengths(which: u32) -> usize {
 
 // The lengths of the store's arrays and of the buffer, and of a function of the array for the numbers; then the type record and the function's,
 // or a crate's count and records.
-pub fn call(which: u32, words: &[u32]) {
+pub fn call(rt: &impl Print, which: u32, words: &[u32]) {
     let mut forms = store();
     let mut whats = store();
     let mut out = buffer();
@@ -107,6 +116,7 @@ pub fn call(which: u32, words: &[u32]) {
     let h = lengths(which);
     let a = end_of(words, h);
     answered(
+        rt,
         which,
         list(words, h),
         list(words, a),
