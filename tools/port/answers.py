@@ -275,14 +275,12 @@ def recorded(f, old, term):
         return term
     fields = []
     for n, v in zip(names, p):
-        if not EASY.match(v.strip()) or True:
-            fields.append(f"{n} = {v}")
+        fields.append(f"{n} = {v}")
     return head + " record { " + "; ".join(fields) + " }"
 
 
 def convert(path, f, modname, left):
     text = read(path)
-    its = items(text)
     head_comment = ""
     m = re.match(r"((?:--[^\n]*\n)+)", text)
     if m:
@@ -314,7 +312,7 @@ def convert(path, f, modname, left):
             rest = decl.split("\n", 1)[1]
             mm = re.match(rf"(?:unfolding [^\n]*\n)?{re.escape(name)}((?:\s+[^\s=]+)*?)\s*=(.*)", rest, re.S)
             ps = mm[1].split()
-            names, olds = [v for v, c in zip(vars_, ch) if c], None
+            names = [v for v, c in zip(vars_, ch) if c]
             # parameters: one for each variable as the loop began, then one for each that it changes
             want = list(vars_) + names
             if len(ps) != len(want):
@@ -399,9 +397,6 @@ def convert(path, f, modname, left):
                     grow = True
         inv_h = [h for d, h in zip(decls, helpers) if d in take]
         rest_h = [h for d, h in zip(decls, helpers) if d not in take]
-        pub_h = []
-        for h in inv_h:
-            pub_h.append(re.sub(r"(?m)^(abbrev |record |unfoldable )?(?!pub |--)(abbrev |record )?(?=[A-Za-zμ])", lambda m: m[0], h, count=0))
         pub_text = []
         for h in inv_h:
             lines = h.split("\n")
