@@ -25,4 +25,4 @@ returns-then-records_end-words c =
 pub returns : goal.returns
 returns c =
     all_pass (omega (arith, c.if-words-eq0.false)) (omega (arith, c.if-n-gt-MOST_FUNCTIONS.false)) (sym c.check_types.ensures.answer ∙ c.if-not-check_types.false)
-    c.records_end.ensures (omega (arith, c.if-records_end-words.false)) (c.check_types.ensures.filled c.if-not-check_types.false)
+    c.records_end.ensures (omega arith) (c.check_types.ensures.filled c.if-not-check_types.false)
