@@ -17,6 +17,7 @@ use Rattle.base.specs.Tests.{clash}
 use Rattle.base.specs.Answer.{split_answer, then_done}
 use Rattle.demand.specs.Whole.{Passed}
 use Rattle.demand.specs.Refused.{passes_refuse}
+use Rattle.state.specs.Given.{Accepted}
 use Rattle.statements.specs.declared.Out.{Out}
 use Rattle.queue.specs.Bits.{no_bits}
 use Rattle.arrival.specs.declared.jump.Visit.{Visit}
@@ -62,6 +63,10 @@ module _ (Γ fn : List ℕ) where
       split_answer (elaborate (frame Γ fn) kept I.entry.1 I.entry.0)
       (λ k e. cc (pass_second Γ fn kept, I.enters, I.infers, I.same))
       (λ g e. cc (pass_second Γ fn kept, I.enters, I.infers, I.same))
+
+-- both records pass
+pub records_pass : {Γ os fn : List ℕ} → Accepted Γ os fn → Passed Γ fn
+records_pass A = record { types = A.ready.typed; function = A.function; places = A.places }
 
 -- THE CASE THAT CANNOT ARISE
 

@@ -4,6 +4,7 @@ mod Moves
 pub mod Fields
 pub mod Locals
 pub mod Finding
+pub mod Standing
 mod Ends
 mod Skipping
 pub mod Fronted

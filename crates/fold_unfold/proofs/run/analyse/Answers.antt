@@ -2,19 +2,12 @@
 -- second, and both are model's.
 use mathlib.Core.Path.{refl}
 use Prim.Native.Nat.{ℕ}
-use mathlib.Core.List.{List}
 use native.Mathlib.Omega.{arith}
 use lib.ListN.{length-replicate}
-use Rattle.demand.specs.Whole.{Passed}
-use Rattle.state.specs.Given.{Accepted}
 use Rattle.fold_unfold.specs.Runs.{blank, again}
 use Rattle.fold_unfold.proofs.Begun.{zeros_remembered}
-use Rattle.fold_unfold.proofs.Both.{first_sound, first_stops, first_goes, second_begins, second_ends}
+use Rattle.fold_unfold.proofs.Both.{records_pass, first_sound, first_stops, first_goes, second_begins, second_ends}
 use Rattle.fold_unfold.proofs.run.analyse.Goals as goal
-
--- both records pass
-passed : {Γ os fn : List ℕ} → Accepted Γ os fn → Passed Γ fn
-passed A = record { types = A.ready.typed; function = A.function; places = A.places }
 
 pub invert-requires : goal.invert-requires
 invert-requires c = record { formed = c.requires.accepted.formed; in_bounds = omega arith }
@@ -27,7 +20,7 @@ run-v-requires c =
       shared = p.shared;
       inverted = c.invert.ensures;
       in_bounds = omega (arith, length-replicate {A = ℕ} 512 0);
-      begins = record { memory = blank; is = zeros_remembered p.wiped p.store_long; starts = refl; goes = first_sound (passed p.accepted) };
+      begins = record { memory = blank; is = zeros_remembered p.wiped p.store_long; starts = refl; goes = first_sound (records_pass p.accepted) };
     }
 
 pub returns-in_default : goal.returns-in_default
@@ -41,7 +34,7 @@ run-requires c =
       shared = p.shared;
       inverted = c.invert.ensures;
       in_bounds = omega (arith, c.run-v.auto.memo, length-replicate {A = ℕ} 512 0);
-      begins = second_begins (first_goes (c.run-v.ensures blank refl (zeros_remembered p.wiped p.store_long)) c.in-Over.is) (passed p.accepted);
+      begins = second_begins (first_goes (c.run-v.ensures blank refl (zeros_remembered p.wiped p.store_long)) c.in-Over.is) (records_pass p.accepted);
     }
 
 pub returns : goal.returns

@@ -8,22 +8,17 @@ use native.Mathlib.Omega.{arith}
 use Rattle.model.specs.Answer.{refused}
 use Rattle.model.specs.Function.{nblocks}
 use Rattle.base.specs.Kinds.{types_known}
-use Rattle.demand.specs.Whole.{Passed}
-use Rattle.state.specs.Given.{Accepted}
 use Rattle.arrival.specs.Memory.{Memory, popped, enters}
 use Rattle.arrival.specs.Shares.{arrays_in, Remembers}
 use Rattle.arrival.proofs.Heard.{spoken_own}
 use Rattle.visit.proofs.Entering.{visits_pen, visits_later}
 use Rattle.fold_unfold.specs.Runs.{opens, pass, Starts, fresh}
+use Rattle.fold_unfold.proofs.Both.{records_pass}
 use Rattle.fold_unfold.proofs.Rounds.{turns, opened_steady, opened_pass}
 use Rattle.fold_unfold.proofs.Changed.{unwaiting, remembers_unwaiting, remembers_cleared, alike_cleared}
 use Rattle.fold_unfold.proofs.Going.{pops_none, pops_block, Going, going_over, going_refused, stands_rests, stands_turns, stands_less}
 use Rattle.fold_unfold.proofs.run.run.Goals as goal
 use Rattle.fold_unfold.proofs.run.run.Goals.{After-open_pass-v}
-
--- both records pass
-passed : {Γ os fn : List ℕ} → Accepted Γ os fn → Passed Γ fn
-passed A = record { types = A.ready.typed; function = A.function; places = A.places }
 
 -- a pass begins with no lines
 starts_lines : (Γ fn : List ℕ) (recording : Bool) (m : Memory) → Starts Γ fn recording m → m.lines ≡ []
@@ -38,7 +33,7 @@ opened : (c : After-open_pass-v) (m : Memory) → let a = c.args in
     (arrays_in l.memo l.waits l.forms l.whats) l.out c.open_pass-v.result
 opened c m z R =
     let a = c.args in
-    let P = passed c.requires.accepted in
+    let P = records_pass c.requires.accepted in
     let U = c.clear_visited.ensures in
     record {
       left = opens a.types.now a.fun.now a.recording m;
@@ -62,7 +57,7 @@ open_pass-v-requires c =
         memory = b.memory;
         is = remembers_cleared c.clear_visited.ensures b.is;
         lines = starts_lines a.types.now a.fun.now a.recording b.memory b.starts;
-        goes = λ d. b.goes (opened_pass (passed p.accepted) a.recording b.memory b.starts ∙ rw d refl);
+        goes = λ d. b.goes (opened_pass (records_pass p.accepted) a.recording b.memory b.starts ∙ rw d refl);
       };
     }
 
@@ -102,7 +97,7 @@ returns-in_default-p c =
     let k = (goal.at.returns-in_default-p c).After-open_pass-v in
     λ m i R.
     let A = going_over (c.loop-v.invariant.1 _ _ _ (opened k m i R)) c.in-Over.is in
-    stands_rests A (passed p.accepted) (pops_none c.pop-p.new.waits p.accepted.formed p.inverted A.remembers c.nblocks.ensures c.pop-p.ensures.popping c.in_default-p.is)
+    stands_rests A (records_pass p.accepted) (pops_none c.pop-p.new.waits p.accepted.formed p.inverted A.remembers c.nblocks.ensures c.pop-p.ensures.popping c.in_default-p.is)
 
 pub slice_bounds-turn-end : goal.slice_bounds-turn-end
 slice_bounds-turn-end c =
@@ -122,7 +117,7 @@ turn-v-requires c =
     let A = going_over (c.loop-v.invariant.1 _ _ _ (opened k b.memory b.starts b.is)) c.in-Over.is in
     let n = c.in-Block.b in
     let (e, w) = pops_block c.pop-p.new.waits p.accepted.formed p.inverted A.remembers c.nblocks.ensures c.pop-p.ensures.popping c.in-Block.is in
-    let N = turns (passed p.accepted) a.recording A.memory n A.steady e in
+    let N = turns (records_pass p.accepted) a.recording A.memory n A.steady e in
     record {
       accepted = p.accepted;
       shared = p.shared;
@@ -148,7 +143,7 @@ loop-v-smaller c =
     let A = going_over (c.loop-v.invariant.1 _ _ _ (opened k b.memory b.starts b.is)) c.in-Over.is in
     let n = c.in-Block.b in
     let (e, w) = pops_block c.pop-p.new.waits p.accepted.formed p.inverted A.remembers c.nblocks.ensures c.pop-p.ensures.popping c.in-Block.is in
-    let N = turns (passed p.accepted) a.recording A.memory n A.steady e in
+    let N = turns (records_pass p.accepted) a.recording A.memory n A.steady e in
     let V = visits_pen (λ r. enters a.types.now a.fun.now r (nblocks a.fun.now) n N.state (popped n A.memory)) A.spoken.pen
     (c.turn-v.ensures (unwaiting n A.memory) N.state (remembers_unwaiting A.remembers n c.pop-p.auto.waits w) N.stored (spoken_own A.spoken)) in
     rw c.in-Over.is (stands_less (types_known a.types.now p.accepted.ready.typed) A N c.turn-v.result V)
@@ -162,7 +157,7 @@ loop-v-preserved c =
           let A = going_over (c.loop-v.invariant.1 x b a G) c.in-Over.is in
           let n = c.in-Block.b in
           let (e, w) = pops_block c.pop-p.new.waits p.accepted.formed p.inverted A.remembers c.nblocks.ensures c.pop-p.ensures.popping c.in-Block.is in
-          let N = turns (passed p.accepted) r.recording A.memory n A.steady e in
+          let N = turns (records_pass p.accepted) r.recording A.memory n A.steady e in
           let V = visits_pen (λ q. enters r.types.now r.fun.now q (nblocks r.fun.now) n N.state (popped n A.memory)) A.spoken.pen
           (c.turn-v.ensures (unwaiting n A.memory) N.state (remembers_unwaiting A.remembers n c.pop-p.auto.waits w) N.stored (spoken_own A.spoken)) in
           stands_turns A N V c.pop-p.auto.waits,

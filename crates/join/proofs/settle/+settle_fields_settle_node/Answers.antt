@@ -1,18 +1,13 @@
 -- What is left of `settle_fields` and `settle_node`: each takes apart the tree that its `requires` says is there to show what its calls ask; what it
 -- ensures are the laws of `Settles`.
-use Rattle.std.proofs.Common.{◌∙◌, sym, List, ℕ, ◌<◌, length, arith}
+use Rattle.std.proofs.Common.{◌∙◌, sym, arith}
 use lib.ListN.{length-set}
-use Rattle.records.specs.Here.{Here}
-use Rattle.records.specs.Codes.{size_pos}
-use Rattle.records.specs.Coded.{coded_in_forms, coded_in_whats, coded_opened, coded_split}
+use Rattle.records.specs.Coded.{coded_opened, coded_split}
 use Rattle.state.proofs.Fields.{ready_typed, ready_sized, no_kids}
+use Rattle.state.proofs.Standing.{node_in}
 use Rattle.join.proofs.Outs.{tree_full}
 use Rattle.join.proofs.Settles.{stays_open, settle_stays, settle_folds, settle_none, settle_full, settle_next, settle_over, settle_more}
 use Rattle.join.proofs.settle.+settle_fields_settle_node.Goals as goal
-
--- a node's place is in both arrays
-node_in : {Γ fs ws : List ℕ} {i t : ℕ} → Here Γ fs ws i t → (i < length fs) × (i < length ws)
-node_in h = (omega (arith, coded_in_forms h.coded, size_pos h.tree), omega (arith, coded_in_whats h.coded, size_pos h.tree))
 
 pub settle_fields-returns-then-ks-eq0 : goal.settle_fields-returns-then-ks-eq0
 settle_fields-returns-then-ks-eq0 t c = settle_none (no_kids _ _ c.if-ks-eq0.true) c.requires.room.low c.reached.ensures

@@ -1,17 +1,12 @@
 -- What is left of `join_fields` and `join_node`: each takes apart the trees that its `requires` says are there to show what its calls ask; what it
 -- ensures are the laws of `Joins`.
-use Rattle.std.proofs.Common.{◌∙◌, List, ℕ, ◌<◌, length, arith}
+use Rattle.std.proofs.Common.{◌∙◌, arith}
 use lib.ListN.{length-set}
-use Rattle.records.specs.Here.{Here}
-use Rattle.records.specs.Codes.{size_pos}
-use Rattle.records.specs.Coded.{coded_in_forms, coded_in_whats, coded_opened, coded_split}
+use Rattle.records.specs.Coded.{coded_opened, coded_split}
 use Rattle.state.proofs.Fields.{ready_typed, ready_sized, no_kids}
+use Rattle.state.proofs.Standing.{node_in}
 use Rattle.join.proofs.Joins.{join_over, join_first_full, join_first, join_second_full, join_second, join_same, join_apart, joins_none, joins_full, joins_next, joins_over, joins_more}
 use Rattle.join.proofs.trees.+join_fields_join_node.Goals as goal
-
--- a node's place is in both its arrays
-node_in : {Γ fs ws : List ℕ} {i t : ℕ} → Here Γ fs ws i t → (i < length fs) × (i < length ws)
-node_in h = (omega (arith, coded_in_forms h.coded, size_pos h.tree), omega (arith, coded_in_whats h.coded, size_pos h.tree))
 
 pub join_fields-returns-then-ks-eq0 : goal.join_fields-returns-then-ks-eq0
 join_fields-returns-then-ks-eq0 t c = joins_none (no_kids _ _ c.if-ks-eq0.true) c.requires.room.low c.reached.ensures

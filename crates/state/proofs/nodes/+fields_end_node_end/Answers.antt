@@ -4,9 +4,9 @@ use Rattle.model.specs.Types.{kids}
 use Rattle.model.specs.Tree.{Forest, size}
 use Rattle.base.specs.Typed.{first_fits, owner_known, parts_inside}
 use Rattle.records.specs.Codes.{size_pos}
-use Rattle.records.specs.Coded.{coded_in_forms, coded_in_whats, coded_folded, coded_opened}
-use Rattle.records.specs.Here.{Here}
+use Rattle.records.specs.Coded.{coded_in_forms, coded_folded, coded_opened}
 use Rattle.state.proofs.Fields.{ready_typed, ready_sized, ready_counted, fields_open}
+use Rattle.state.proofs.Standing.{node_in}
 use Rattle.state.proofs.Skipping.{Passed, passed_none, passed_all, passed_split, passed_more, passed_folded}
 use Rattle.state.proofs.nodes.+fields_end_node_end.Goals as goal
 use Rattle.state.proofs.nodes.+fields_end_node_end.Goals.{fields_end-then-forms-e-eq0, fields_end-else-forms-e-eq0}
@@ -16,10 +16,6 @@ next_in : {Γ fs ws : List ℕ} {i u j n e k : ℕ} {xs : Forest} → Passed Γ 
 next_in P l =
     let S = passed_split P l in
     omega (arith, coded_in_forms S.here, size_pos S.head)
-
--- a tree's node is in both arrays
-node_in : {Γ fs ws : List ℕ} {i t : ℕ} → Here Γ fs ws i t → (i < length fs) × (i < length ws)
-node_in h = (omega (arith, coded_in_forms h.coded, size_pos h.tree), omega (arith, coded_in_whats h.coded, size_pos h.tree))
 
 pub fields_end-loop-k-init : goal.fields_end-loop-k-init
 fields_end-loop-k-init t c = (omega arith, omega arith, λ xs h. passed_none h)

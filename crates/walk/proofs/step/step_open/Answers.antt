@@ -13,9 +13,9 @@ use Rattle.base.specs.Kinds.{pointer_not_enum}
 use Rattle.records.specs.Here.{Here, Coded}
 use Rattle.state.specs.Found.{OpenAt}
 use mathlib.Core.List.{List}
-use Rattle.records.specs.Codes.{size_pos}
-use Rattle.records.specs.Coded.{coded_opened, coded_in_forms, coded_in_whats}
+use Rattle.records.specs.Coded.{coded_opened}
 use Rattle.state.proofs.Fields.{ready_typed, ready_sized, ready_counted}
+use Rattle.state.proofs.Standing.{node_in}
 use Rattle.walk.specs.Way.{Steps}
 use Rattle.walk.specs.declared.step.Step.{Step}
 use Rattle.walk.specs.declared.step.Step.TheVariants.{To, Refused}
@@ -23,10 +23,6 @@ use Rattle.walk.proofs.Items.{elem_deref, elem_field, elem_cast, elem_other}
 use Rattle.base.specs.Typed.{kids_pointer}
 use Rattle.walk.proofs.Stepping.{fields_here, fields_there, deref_to, field_to, cast_stay, open_stay, deref_refused, field_pointer, field_past, cast_none, cast_other}
 use Rattle.walk.proofs.step.step_open.Goals as goal
-
--- a node of a tree lies in the arrays
-node_inside : {Γ fs ws : List ℕ} {i t : ℕ} → Here Γ fs ws i t → (i < length fs) × (i < length ws)
-node_inside H = (omega (arith, coded_in_forms H.coded, size_pos H.tree), omega (arith, coded_in_whats H.coded, size_pos H.tree))
 
 -- its variant is in range
 node_ranged : {Γ fs ws : List ℕ} {i t : ℕ} → Here Γ fs ws i t → OpenAt fs i → (v : ℕ) → v ≡ get_or ws i 0 → kind Γ t ≡ 7 → v < count Γ t
@@ -42,16 +38,16 @@ kind_of-k-requires c = record { sized = ready_sized c.requires.ready; t_bound = 
 
 pub offset_bounds-whats-node : goal.offset_bounds-whats-node
 offset_bounds-whats-node c =
-    let h = (node_inside c.requires.here).1 in
+    let h = (node_in c.requires.here).1 in
     omega (arith, h)
 
 pub bounds-whats-node : goal.bounds-whats-node
 bounds-whats-node c =
-    (node_inside c.requires.here).1
+    (node_in c.requires.here).1
 
 pub overflow_add-result : goal.overflow_add-result
 overflow_add-result c =
-    let h = (node_inside c.requires.here).0 in
+    let h = (node_in c.requires.here).0 in
     omega (arith, h)
 
 pub kid_type-requires : goal.kid_type-requires
@@ -80,7 +76,7 @@ first_of-j-requires c = record { sized = ready_sized c.requires.ready; t_bound =
 
 pub overflow_add-node : goal.overflow_add-node
 overflow_add-node c =
-    let h = (node_inside c.requires.here).0 in
+    let h = (node_in c.requires.here).0 in
     omega (arith, h)
 
 pub fields_end-to-requires : goal.fields_end-to-requires
