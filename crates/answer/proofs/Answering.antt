@@ -1,6 +1,6 @@
 -- What is printed of the call's answer and of its buffer is model's text of what is found.
-use mathlib.Core.Path.{◌≡◌, refl, sym, ap, ◌∙◌}
-use mathlib.Core.Bool.{Bool, true, false, true≢false}
+use mathlib.Core.Path.{◌≡◌, refl, ◌∙◌}
+use mathlib.Core.Bool.{true}
 use mathlib.Core.List.{List}
 use Prim.Native.Nat.{ℕ, ◌+◌, ◌*◌, ◌^◌, ◌<◌, ◌≤◌}
 use native.Mathlib.Omega.{arith}
@@ -20,7 +20,7 @@ use Rattle.model.specs.Whole.{accepted, denied, result, found, whole, with_numbe
 use Rattle.model.specs.Told.{number_ok}
 use Rattle.model.specs.Function.{function_length}
 use Rattle.model.specs.Ghosts.{function_words, analysed, answer_text, lines_text, fresh, close, printed, ghosts, ghosts_store, ghosts_buffer}
-use Rattle.base.specs.Tests.{split, and_left}
+use Rattle.base.specs.Tests.{split, clash, and_left}
 use Rattle.base.specs.Answer.{split_answer}
 use Rattle.model.specs.Promised.{Answered}
 use Rattle.records.specs.Recorded.{lines_few}
@@ -32,14 +32,11 @@ use Rattle.text.specs.declared.scan.Scan.{Scan}
 use Rattle.text.specs.Reading.{Reads}
 use Rattle.text.specs.Printing.{FewDigits}
 use Rattle.answer.specs.Said.{Ended, Says}
-use Rattle.fold_unfold.specs.declared.Ghosts.{Ghosts}
-use Rattle.fold_unfold.specs.declared.Ghosts.TheVariants.{Done, Refused}
+use Rattle.std.specs.Prelude.{Option, Result, Ok, Err}
+use Rattle.refusal.specs.declared.Refusal.{Refusal}
+use Rattle.refusal.specs.Refusal.{number}
+use Rattle.statements.specs.declared.Counts.{Counts}
 use Rattle.fold_unfold.specs.Answers.{answer_of, WholeTold}
-
--- a record, not a refusal
-abbrev is_done : Ghosts → Bool
-is_done (Done a b) = true
-is_done (Refused n) = false
 
 -- lines are recorded, with their numbers, and are what is found
 pub record Recorded (Γ fn out told : List ℕ) : Type 0 where
@@ -71,10 +68,10 @@ module _ (Γ fn : List ℕ) where
       let l : length f.lines ≤ 341 = rw e at numbers_fit in
       rw (e, le-leb (length f.lines) 341 l) refl
 
-module _ {Γ fn fs ws out told fs' ws' out' told' : List ℕ} {r : Ghosts} (W : WholeTold Γ fn fs ws out told fs' ws' out' told' r)
+module _ {Γ fn fs ws out told fs' ws' out' told' : List ℕ} {r : Result Counts Refusal} (W : WholeTold Γ fn fs ws out told fs' ws' out' told' r)
     (zf : length fs ≡ ghosts_store) (zw : length ws ≡ ghosts_store) (zo : length out ≡ ghosts_buffer) (zt : length told ≡ 341) where
   -- the answer and the buffer, by the lengths
-  answer_is : r ≡ answer_of (whole Γ fn ghosts_store ghosts_store ghosts_buffer).answer
+  answer_is : answer_of r ≡ (whole Γ fn ghosts_store ghosts_store ghosts_buffer).answer
   answer_is = rw (zf, zw, zo, zt, told_as Γ fn) at W.answer
 
   out_is : out' ≡ (whole Γ fn ghosts_store ghosts_store ghosts_buffer).out
@@ -84,18 +81,20 @@ module _ {Γ fn fs ws out told fs' ws' out' told' : List ℕ} {r : Ghosts} (W : 
   told_is = rw (zf, zw, zo, zt) at W.numbers_are
 
   -- a refusal
-  pub refused_text : {n : ℕ} → r ≡ Refused n → answer_text (entry_point fn) (found Γ fn ghosts_store ghosts_store ghosts_buffer) ≡ answer_text 0 (refused n)
+  pub refused_text : {e : Refusal} → r ≡ Err e → answer_text (entry_point fn) (found Γ fn ghosts_store ghosts_store ghosts_buffer) ≡ answer_text 0 (refused (number e))
   unfolding whole result denied accepted answer_text
-  refused_text {n} e = split_answer (found Γ fn ghosts_store ghosts_store ghosts_buffer)
-      (λ k d. let a = answer_is in cc)
-      (λ f d. let a = answer_is in cc)
+  refused_text {e} d =
+      let a = rw d at answer_is in
+      split_answer (found Γ fn ghosts_store ghosts_store ghosts_buffer) (λ k f. cc) (λ f g. cc)
 
   -- a record
-  pub done_text : {a b : ℕ} → r ≡ Done a b → Recorded Γ fn out' told'
+  pub done_text : {k : Counts} → r ≡ Ok k → Recorded Γ fn out' told'
   unfolding whole result denied accepted answer_text
-  done_text e = split_answer (found Γ fn ghosts_store ghosts_store ghosts_buffer)
-      (λ k d. let a = answer_is in absurd (true≢false (ap is_done (sym e) ∙ cc)))
-      (λ f d. let a = out_is in record { lines = f.lines; is = cc; numbers_are = told_is ∙ numbers_as Γ fn d; text = cc })
+  done_text d =
+      let a = rw d at answer_is in
+      split_answer (found Γ fn ghosts_store ghosts_store ghosts_buffer)
+      (λ k e. clash (cc))
+      (λ f e. let a = out_is in record { lines = f.lines; is = cc; numbers_are = told_is ∙ numbers_as Γ fn e; text = cc })
 
 -- a small number has three digits at the most
 pub few_digits : (ns : List ℕ) → ((i : ℕ) → number_ok (word ns i) ≡ true) → FewDigits ns
@@ -118,7 +117,6 @@ module _ (ws fw : List ℕ) (e : fw ≡ function_words ws) where
   records_text l = let b = le-leb (length fw) (function_length fw) l in cc
 
 -- WHAT IS PRINTED of a text that has been read to its end is lines of statements, or `refused` and a number of the call's
-pub answered : {s : Scan} {words t t' : List ℕ} {r : ℕ} → Ended s words
-    → ((ps : List (List ℕ)) → Reads (close (scan_pieces ps fresh)) s words → Says t t' r (ghosts (joined ps))) → r ≤ length t
-    → ((ps : List (List ℕ)) → Reads (close (scan_pieces ps fresh)) s words → Says t t' r (ghosts (joined ps))) × ((r ≤ length t) × Answered (take r t'))
-answered E f l = (f, (l, rw (f E.pieces E.reads).said (ghosts_answered (joined E.pieces))))
+pub answered : {s : Option Scan} {words t t' : List ℕ} {r : ℕ} → Ended s words
+    → ((ps : List (List ℕ)) → Reads (close (scan_pieces ps fresh)) s words → Says t t' r (ghosts (joined ps))) → Answered (take r t')
+answered E f = rw (f E.pieces E.reads).said (ghosts_answered (joined E.pieces))

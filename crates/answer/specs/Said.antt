@@ -1,5 +1,5 @@
 -- A text that has been read, in whatever pieces, and what is printed.
-use Rattle.std.specs.Prelude.{◌≡◌, List, ℕ, ◌≤◌, length, take}
+use Rattle.std.specs.Prelude.{◌≡◌, Option, List, ℕ, ◌≤◌, length, take}
 use Rattle.model.specs.Record.{lent}
 use Rattle.model.specs.Ghosts.{fresh, close, answer_text, ghosts, ghosts_store, ghosts_buffer}
 use Rattle.model.specs.Block.{entry_point}
@@ -9,7 +9,7 @@ use Rattle.text.specs.declared.scan.Scan.{Scan}
 use Rattle.text.specs.Reading.{Reads}
 
 -- some pieces have been read, and that was all
-pub record Ended (s : Scan) (words : List ℕ) : Type 0 where
+pub record Ended (s : Option Scan) (words : List ℕ) : Type 0 where
   pub pieces : List (List ℕ)
   pub reads : Reads (close (scan_pieces pieces fresh)) s words
 
@@ -29,5 +29,5 @@ abbrev pub answer_of : List ℕ → List ℕ → List ℕ
 answer_of Γ fn = answer_text (entry_point fn) (found Γ fn ghosts_store ghosts_store ghosts_buffer)
 
 -- whatever pieces were read, the answer to all of them is printed
-abbrev pub Responds : Scan → (words t t' : List ℕ) → ℕ → Type 0
+abbrev pub Responds : Option Scan → (words t t' : List ℕ) → ℕ → Type 0
 Responds s words t t' r = (ps : List (List ℕ)) → Reads (close (scan_pieces ps fresh)) s words → Says t t' r (ghosts (joined ps))

@@ -5,11 +5,11 @@ ghost use Rattle.std.specs.Prelude.{◌≡◌, ◌≤◌, length, take};
 ghost use Rattle.model.specs.Answer.{done};
 ghost use Rattle.model.specs.Ghosts.{fresh, close, printed, ghosts};
 ghost use Rattle.model.specs.Promised.{Answered};
-ghost use Rattle.statements.specs.Moved.{cleared};
 ghost use Rattle.answer.specs.Said.{Ended, Says, Printed, Responds, answer_of};
 
-use fold_unfold::{Ghosts, ghost_statements};
+use fold_unfold::ghost_statements;
 use mir::split::function_length;
+use refusal::Refusal;
 use text::print::{print_record, print_refusal};
 use text::scan::{Scan, close, fresh, scan_piece};
 use text::split::function_start;
@@ -21,43 +21,19 @@ pub fn room() -> [u32; 4096]
     [0; 4096]
 }
 
-// An array of the store, for 16 join points.
-fn store() -> [u16; 8192]
-    ensures { length result ≡ 8192 }
-{
-    [0; 8192]
-}
-
-// The statement buffer, for 1,024 entries.
-fn buffer() -> [u32; 2050]
-    ensures { length result ≡ 2050 }
-{
-    [0; 2050]
-}
-
-// An array for the numbers: 1,024 entries are of 341 statements at the most.
-fn numbers() -> [u32; 341]
-    ensures { length result ≡ 341 }
-{
-    [0; 341]
-}
-
 // The statements of a function, or the refusal.
 fn answer_records(types: &[u32], fun: &[u32], text: &mut [u8]) -> usize
     requires { length text.old ≡ 14336 }
     ensures { Says text.old text.new result (answer_of types.now fun.now) }
 {
-    let mut forms = store();
-    let mut whats = store();
-    let mut out = buffer();
-    let mut told = numbers();
-    let a = ghost_statements(types, fun, &mut forms, &mut whats, &mut out, &mut told);
-    match a {
-        Ghosts::Refused(n) => print_refusal(text, n),
-        Ghosts::Done {
-            statements: _,
-            entries: _,
-        } => print_record(&out, &told, text),
+    // A store for 16 join points, a buffer for 1,024 entries, which are of 341 statements at the most.
+    let mut forms = [0u16; 8192];
+    let mut whats = [0u16; 8192];
+    let mut out = [0u32; 2050];
+    let mut told = [0u32; 341];
+    match ghost_statements(types, fun, &mut forms, &mut whats, &mut out, &mut told) {
+        Ok(_) => print_record(&out, &told, text),
+        Err(e) => print_refusal(text, e),
     }
 }
 
@@ -66,40 +42,24 @@ fn answer_words(words: &[u32], text: &mut [u8]) -> usize
     requires { length text.old ≡ 14336 }
     ensures { Says text.old text.new result (printed (done words.now)) }
 {
-    let n = words.len();
-    let a = function_start(words);
-    let fun = &words[a..n];
+    let (types, fun) = words.split_at(function_start(words));
     if function_length(fun) < fun.len() {
-        return print_refusal(text, 2);
+        return print_refusal(text, Refusal::BadFunction);
     }
-    answer_records(&words[..a], fun, text)
+    answer_records(types, fun, text)
 }
 
 // The answer to a text that has been read to its end, in whatever pieces.
-pub fn respond(s: Scan, words: &[u32], text: &mut [u8]) -> usize
+pub fn respond(s: Option<Scan>, words: &[u32], text: &mut [u8]) -> usize
     requires ended { Ended s words.now }
     requires text_len { length text.old ≡ 14336 }
     ensures responds { Responds s words.now text.old text.new result }
     ensures within { result ≤ length text.old }
     ensures answered { Answered (take result text.new) }
 {
-    if !s.fine {
-        return print_refusal(text, 2);
-    }
-    let n = s.total;
-    answer_words(&words[..n], text)
-}
-
-// Zeros from a byte on.
-fn clear(text: &mut [u8], from: usize)
-    requires { from ≤ length text.old }
-    ensures { text.new ≡ cleared text.old from }
-{
-    let n = text.len();
-    let mut i = from;
-    while i < n {
-        text[i] = 0;
-        i += 1;
+    match s {
+        Some(s) => answer_words(&words[..s.total], text),
+        None => print_refusal(text, Refusal::BadFunction),
     }
 }
 
@@ -111,8 +71,8 @@ pub fn ghosts(bytes: &[u8], text: &mut [u8]) -> usize
 {
     let mut words = room();
     let s = scan_piece(fresh(), bytes, &mut words);
-    let t = close(s, &mut words);
-    let n = respond(t, &words, text);
-    clear(text, n);
+    let s = close(s, &mut words);
+    let n = respond(s, &words, text);
+    text[n..].fill(0);
     n
 }

@@ -4,6 +4,7 @@ use mathlib.Core.Bool.{Bool, true, false}
 use mathlib.Core.List.{List}
 use mathlib.Core.Option.{none, some}
 use Prim.Native.Nat.{ℕ, suc, ◌+◌, ◌≤◌, ◌<◌}
+use Rattle.std.specs.Prelude.{Option, Some, None}
 use native.Mathlib.Numerals.{add-one}
 use native.Mathlib.Omega.{arith}
 use lib.Dec.{leb}
@@ -22,9 +23,7 @@ use Rattle.laws.specs.Flags.{flags1_law}
 use Rattle.state.specs.Value.{value}
 use Rattle.state.specs.declared.nodes.State.{State}
 use Rattle.join.specs.declared.trees.Joined.{Joined}
-use Rattle.join.specs.declared.trees.Joined.TheVariants as joined_variants
-use Rattle.join.specs.declared.trees.Joined.TheVariants.{To}
-use Rattle.join.specs.Answers.{joined, JoinedIn}
+use Rattle.join.specs.Answers.{joined_to, joined, JoinedIn}
 use Rattle.arrival.specs.Shares.{Full}
 use Rattle.arrival.specs.Arrivals.{takes, Took, Arrives}
 use Rattle.arrival.proofs.Stored.{held_full}
@@ -60,44 +59,44 @@ module _ {Γ locals : List ℕ} {c : ℕ} {kept fs ws kept' : List ℕ} {waits w
   arrives_first h l k p q u v = arrives_new refl (rw (p, q) (held_full h)) l (k ∙ ap (λ (m : ℕ). m + 1) h.count ∙ add-one _) u v
 
 -- where S is stored, by the join with it
-module _ {Γ locals fs ws : List ℕ} {S E : Forest} {r : Joined} (j : JoinedIn Γ S E r fs ws) (f : Valid Γ locals S) (g : Valid Γ locals E) where
+module _ {Γ locals fs ws : List ℕ} {S E : Forest} {r : Option Joined} (j : JoinedIn Γ S E r fs ws) (f : Valid Γ locals S) (g : Valid Γ locals E) where
   -- the share that it is written to
   joined_stored : {k : ℕ} → sizes (joins Γ false S E) ≤ 512 → k ≡ suc (sizes (joins Γ false S E)) → Full Γ locals fs ws k (joins Γ false S E)
   joined_stored h e = record { valid = joins_valid f g h; count = e; forms = j.forms h; whats = j.whats h }
 
   -- it has room, if it has an answer
-  joined_room : {n : ℕ} {b : Bool} → r ≡ To n b
-      → (takes Γ (some S) E ≡ done (joins Γ false S E, b)) × (sizes (joins Γ false S E) ≤ 512) × (n ≡ sizes (joins Γ false S E)) × (b ≡ (flagss Γ false S E).0)
+  joined_room : {w : Joined} → r ≡ Some w
+      → (takes Γ (some S) E ≡ done (joins Γ false S E, w.changed)) × (sizes (joins Γ false S E) ≤ 512) × (w.nodes ≡ sizes (joins Γ false S E)) × (w.changed ≡ (flagss Γ false S E).0)
   unfolding takes joined
-  joined_room {n} {b} e =
+  joined_room {w} e =
       let a = j.answer in
       split (leb (sizes (joins Γ false S E)) 512)
       (λ l.
-      let flag : b ≡ (flagss Γ false S E).0 = cc in
-      (rw (l, flag), leb-true (sizes (joins Γ false S E)) 512 l, cc, flag))
+      let same : joined_to (sizes (joins Γ false S E)) (flagss Γ false S E).0 ≡ w = cc in
+      rw (← same) (rw l, leb-true (sizes (joins Γ false S E)) 512 l, refl, refl))
       (λ l. clash (cc))
 
   -- so its nodes are few
-  pub joined_few : {n : ℕ} {b : Bool} → r ≡ To n b → n ≤ 512
+  pub joined_few : {w : Joined} → r ≡ Some w → w.nodes ≤ 512
   joined_few e = let t = joined_room e in omega arith
 
   module _ {c : ℕ} {kept : List ℕ} {waits : ℕ → Bool} where
     -- no room
-    pub arrives_over : r ≡ joined_variants.Full → Arrives Γ locals c kept waits (takes Γ (some S) E) fs ws kept waits 9
+    pub arrives_over : r ≡ None → Arrives Γ locals c kept waits (takes Γ (some S) E) fs ws kept waits 9
     unfolding takes joined
     arrives_over e =
         let a = j.answer in
         arrives_refused (split (leb (sizes (joins Γ false S E)) 512) (λ l. clash (cc)) (λ l. rw l))
 
     -- a change
-    pub arrives_changed : {kept' : List ℕ} {waits' : ℕ → Bool} {n m : ℕ} {b : Bool} → r ≡ To n b → b ≡ true → c < length kept → m ≡ n + 1 → kept' ≡ set kept c m → waits' ≡ put waits c true
+    pub arrives_changed : {kept' : List ℕ} {waits' : ℕ → Bool} {m : ℕ} {w : Joined} → r ≡ Some w → w.changed ≡ true → c < length kept → m ≡ w.nodes + 1 → kept' ≡ set kept c m → waits' ≡ put waits c true
         → Arrives Γ locals c kept waits (takes Γ (some S) E) fs ws kept' waits' 0
     arrives_changed e d l k p q =
         let t = joined_room e in
         arrives_new (t.0 ∙ ap (λ (x : Bool). done (joins Γ false S E, x)) d) (joined_stored t.1 refl) l (k ∙ ap (λ (x : ℕ). x + 1) t.2 ∙ add-one _) p q
 
     -- none
-    pub arrives_unchanged : {n : ℕ} {b : Bool} → r ≡ To n b → b ≡ false → word kept c ≡ suc (sizes S) → Arrives Γ locals c kept waits (takes Γ (some S) E) fs ws kept waits 0
+    pub arrives_unchanged : {w : Joined} → r ≡ Some w → w.changed ≡ false → word kept c ≡ suc (sizes S) → Arrives Γ locals c kept waits (takes Γ (some S) E) fs ws kept waits 0
     arrives_unchanged e d k =
         let t = joined_room e in
         let same : joins Γ false S E ≡ S = (flags1_law false f.fits g.fits).0 (sym t.3 ∙ d) in

@@ -1,13 +1,14 @@
 -- What is kept for each block, in one array: one word written in a part changes that part alone. Assumes nothing.
-use mathlib.Core.Path.{◌≡◌, refl, sym, ap, ◌∙◌}
-use mathlib.Core.List.{List, [], ◌∷◌}
+use mathlib.Core.Path.{◌≡◌, refl, sym, ap, ◌∙◌, subst}
+use mathlib.Core.List.{List, [], ◌∷◌, ◌++◌, append-nil}
 use Prim.Native.Nat.{ℕ, zero, suc, ◌+◌, ◌-◌, ◌≤◌, ◌<◌, min}
 use native.Mathlib.Omega.{arith}
 use lib.ListN.{length, take, drop, set, replicate, length-set, length-take, length-drop, length-append, length-replicate}
 use lib.Seq.{take-set-le, drop-set-lt, get_or-take, get_or-drop, take_at, drop_at, length-take-le}
+use borrow.Rule.Slice.PartMut.{put_mid}
+use Rattle.std.proofs.lemmas.List.{drop_all}
 use Rattle.model.specs.Words.{word}
 use Rattle.base.specs.Equal.{take_replicate}
-use Rattle.statements.specs.Moved.{cleared}
 use Rattle.arrival.specs.Arrivals.{Shelved}
 use Rattle.arrival.specs.Shares.{kept_in, visited_in, Stores, Visited, Unvisited, arrays_in, Alike}
 
@@ -55,17 +56,22 @@ visits memo b h = record {
 pub parts_long : (memo : List ℕ) → length (kept_in memo) ≡ 256 → length (visited_in memo) ≡ 256 → 512 ≤ length memo
 parts_long memo e d = omega (arith, rw (length-take, length-drop) at d)
 
+-- zeros are written behind the first n
+zeros_behind : (n : ℕ) (l ys : List ℕ) → n ≤ length l → ys ≡ replicate (length l - n) 0 → put_mid n (length l - n) l ys ≡ take n l ++ replicate (length l - n) 0
+zeros_behind n l ys h e =
+    let none : drop (length l - n) (drop n l) ≡ [] = drop_all (length l - n) (drop n l) (omega (arith, length-drop n l)) in
+    rw (e, none) (ap (λ (t : List ℕ). take n l ++ t) (append-nil (replicate (length l - n) 0)))
+
 -- none is
-pub unvisits : (memo : List ℕ) → 512 ≤ length memo → Unvisited memo (cleared memo 256)
-unfolding cleared
-unvisits memo h =
+pub unvisits : (memo ys : List ℕ) → 512 ≤ length memo → ys ≡ replicate (length memo - 256) 0 → Unvisited memo (put_mid 256 (length memo - 256) memo ys)
+unvisits memo ys h q =
     let e : length (take 256 memo) ≡ 256 = length-take-le 256 memo (omega arith) in
     let z : List ℕ = replicate (length memo - 256) 0 in
-    record {
+    subst (Unvisited memo) (sym (zeros_behind 256 memo ys (omega arith) q)) (record {
       same = length-append (take 256 memo) z ∙ omega (arith, e, length-replicate {A = ℕ} (length memo - 256) 0);
       kept = take_at (take 256 memo) z 256 e;
       visited = ap (take 256) (drop_at (take 256 memo) z 256 e) ∙ take_replicate 256 (length memo - 256) 0 (omega arith);
-    }
+    })
 
 -- a block of a share has a word in the first
 pub kept_inside : {Γ fn memo fs ws : List ℕ} {c : ℕ} → Shelved Γ fn memo fs ws c → c < length (kept_in memo)

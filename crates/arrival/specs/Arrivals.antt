@@ -1,5 +1,5 @@
 -- What an arrival at a join point leaves in the share of the block that is lent, and in the buffer: in the first pass and in the second.
-use Rattle.std.specs.Prelude.{◌≡◌, Bool, true, false, cond, List, ℕ, suc, ◌≤◌, ◌<◌, length, set, eqb, leb}
+use Rattle.std.specs.Prelude.{◌≡◌, Bool, true, false, cond, List, ℕ, suc, ◌≤◌, ◌<◌, length, set, eqb, leb, Result, Ok}
 use Rattle.std.proofs.Math.Option.{Option, none, some}
 use Rattle.moments.specs.Lent.{Lent, was, after}
 use Rattle.model.specs.Words.{word}
@@ -13,6 +13,8 @@ use Rattle.model.specs.Block.{entry_point}
 use Rattle.model.specs.Frame.{mark}
 use Rattle.model.specs.Rounds.{put}
 use Rattle.records.specs.Here.{Holds}
+use Rattle.refusal.specs.Refusal.{answered}
+use Rattle.refusal.specs.declared.Refusal.{Refusal}
 use Rattle.state.specs.Value.{value}
 use Rattle.state.specs.declared.nodes.State.{State}
 use Rattle.statements.specs.Marked.{marked}
@@ -21,13 +23,6 @@ use Rattle.statements.specs.Points.{point}
 use Rattle.statements.specs.declared.Out.{Out}
 use Rattle.arrival.specs.Shares.{Full, Saved, kept_in, visited_in, waits_in}
 use Rattle.arrival.specs.declared.jump.Jump.{Jump}
-use Rattle.arrival.specs.declared.jump.Visit.{Visit}
-use Rattle.arrival.specs.declared.jump.Visit.TheVariants.{Over, Refused}
-
--- r tells whether P holds
-pub record Tests (r : Bool) (P : Type 0) : Type 0 where
-  pub holds : r ≡ true → P
-  pub fails : r ≡ false → P → ⊥
 
 -- s is the state that stands in the share, whose count is k
 abbrev pub Stands : ℕ → State → List ℕ → List ℕ → Type 0
@@ -77,11 +72,11 @@ pub record Shelved (Γ fn memo fs ws : List ℕ) (c : ℕ) : Type 0 where
 
 -- AN ARRIVAL IN THE SECOND PASS
 
-pub record Reconciles (fn : List ℕ) (p c : ℕ) (visited : List ℕ) (waits : ℕ → Bool) (out : List ℕ) (o : Out) (a : Answer (List At)) (waits' : ℕ → Bool) (out' : List ℕ) (r : Visit) : Type 0 where
+pub record Reconciles (fn : List ℕ) (p c : ℕ) (visited : List ℕ) (waits : ℕ → Bool) (out : List ℕ) (o : Out) (a : Answer (List At)) (waits' : ℕ → Bool) (out' : List ℕ) (r : Result Out Refusal) : Type 0 where
   pub same : length out' ≡ length out
-  pub denied : (n : ℕ) → a ≡ refused n → r ≡ Refused n
+  pub denied : (n : ℕ) → a ≡ refused n → answered r ≡ refused n
   pub told : (ts : List At) → a ≡ done ts
-      → (q : Out) × (r ≡ Over q) × Puts (length ts) out o out' q (marked (entry_point fn) (mark p ts))
+      → (q : Out) × (r ≡ Ok q) × Puts (length ts) out o out' q (marked (entry_point fn) (mark p ts))
   pub waiting : (ts : List At) → a ≡ done ts → waits' ≡ cond (eqb (word visited c) 0) (put waits c true) waits
 
 -- a state is stored in the share of the block c
@@ -92,7 +87,7 @@ pub record Filled (Γ fn memo fs ws : List ℕ) (c : ℕ) : Type 0 where
   pub long : 512 ≤ length memo
 
 -- the statements from whatever state s is to whatever is stored in the share
-abbrev pub Reconciling : (Γ fn : List ℕ) (j : Jump) → State → (memo fs ws : List ℕ) (waits out : Lent) → Out → Visit → Type 0
+abbrev pub Reconciling : (Γ fn : List ℕ) (j : Jump) → State → (memo fs ws : List ℕ) (waits out : Lent) → Out → Result Out Refusal → Type 0
 Reconciling Γ fn j s memo fs ws waits out o r = (S E : Forest)
     → Full Γ (local_types fn) fs ws (word (kept_in memo) j.block) S → Holds Γ (local_types fn) (value s) E
     → Reconciles fn (point fn j.entry j.item) j.block (visited_in memo) (waits_in fn (was waits)) (was out) o (collects Γ E S) (waits_in fn (after waits)) (after out) r

@@ -1,5 +1,5 @@
 -- What a visit, or an arrival in it, leaves in the arrays and in the buffer: model's answer, from whatever memory and state they have.
-use Rattle.std.specs.Prelude.{◌≡◌, ◌≢◌, Bool, true, List, ℕ, ◌<◌, length}
+use Rattle.std.specs.Prelude.{◌≡◌, ◌≢◌, Bool, true, List, ℕ, ◌<◌, length, Result, Ok}
 use Rattle.moments.specs.Lent.{Lent, was, after}
 use Rattle.model.specs.Answer.{Answer, refused, done}
 use Rattle.model.specs.Tree.{Forest}
@@ -8,6 +8,8 @@ use Rattle.model.specs.Function.{local_types, nitems, nblocks}
 use Rattle.model.specs.Block.{entry_point}
 use Rattle.model.specs.Frame.{Line, Exit}
 use Rattle.records.specs.Here.{Holds}
+use Rattle.refusal.specs.Refusal.{answered}
+use Rattle.refusal.specs.declared.Refusal.{Refusal}
 use Rattle.state.specs.Value.{value}
 use Rattle.state.specs.declared.nodes.State.{State}
 use Rattle.statements.specs.Marked.{marked}
@@ -17,8 +19,6 @@ use Rattle.statements.specs.declared.Out.{Out}
 use Rattle.arrival.specs.Memory.{Memory, arrives}
 use Rattle.arrival.specs.Shares.{Arrays, Change, Remembers, Alike}
 use Rattle.arrival.specs.declared.jump.Jump.{Jump}
-use Rattle.arrival.specs.declared.jump.Visit.{Visit}
-use Rattle.arrival.specs.declared.jump.Visit.TheVariants.{Over, Refused}
 
 -- the jump is from an item to a block
 abbrev pub JumpIn : List ℕ → Jump → Type 0
@@ -56,19 +56,19 @@ pub record Ongoing (Γ fn : List ℕ) (a : Arrays) (out : List ℕ) (o : Out) (s
 -- WHAT IS LEFT
 
 -- model's answer a, in the arrays and the buffer
-pub record Visits (Γ fn : List ℕ) (recording : Bool) (x : Arrays) (out : List ℕ) (a : Answer Memory) (x' : Arrays) (out' : List ℕ) (r : Visit) : Type 0 where
+pub record Visits (Γ fn : List ℕ) (recording : Bool) (x : Arrays) (out : List ℕ) (a : Answer Memory) (x' : Arrays) (out' : List ℕ) (r : Result Out Refusal) : Type 0 where
   pub alike : Alike x x'
   pub same : length out' ≡ length out
-  pub denied : (n : ℕ) → a ≡ refused n → r ≡ Refused n
-  pub over : (m : Memory) → a ≡ done m → (o : Out) × (r ≡ Over o) × Remembers Γ fn m x' × Spoken fn recording m.lines out' o
+  pub denied : (n : ℕ) → a ≡ refused n → answered r ≡ refused n
+  pub over : (m : Memory) → a ≡ done m → (o : Out) × (r ≡ Ok o) × Remembers Γ fn m x' × Spoken fn recording m.lines out' o
 
 module _ (Γ fn : List ℕ) (x : Change) (out : Lent) where
   -- it is so from whatever memory and state the arrays, the buffer and s have
-  abbrev pub Visiting : State → Out → (Bool → Forest → Memory → Answer Memory) → Visit → Type 0
+  abbrev pub Visiting : State → Out → (Bool → Forest → Memory → Answer Memory) → Result Out Refusal → Type 0
   Visiting s o answer r = (m : Memory) (E : Forest) → Remembers Γ fn m x.before → Spoken fn o.recording m.lines (was out) o
       → Holds Γ (local_types fn) (value s) E
       → Visits Γ fn o.recording x.before (was out) (answer o.recording E m) x.behind (after out) r
 
   -- a state arrives by the jump j
-  abbrev pub Meets : Jump → State → Out → Visit → Type 0
+  abbrev pub Meets : Jump → State → Out → Result Out Refusal → Type 0
   Meets j s o r = Visiting s o (meeting Γ fn j) r

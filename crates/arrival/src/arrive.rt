@@ -1,24 +1,24 @@
 // Arrivals at a join point, whose share of the store is lent: `goto_join_point` of both passes.
-ghost use Rattle.std.specs.Prelude.{◌≡◌, true, ◌<◌, length};
+ghost use Rattle.std.specs.Prelude.{◌≡◌, ◌↔◌, true, ◌<◌, length, IsTrue};
 ghost use Rattle.model.specs.Function.{nitems, local_types};
 ghost use Rattle.model.specs.Rounds.{put};
 ghost use Rattle.mir.specs.Sizes.{Formed};
-ghost use Rattle.state.specs.Share.{Share};
+ghost use Rattle.refusal.specs.Refusal.{code};
 ghost use Rattle.statements.specs.Kept.{Counted};
 ghost use Rattle.state.specs.Given.{Accepted, Stated};
 ghost use Rattle.arrival.specs.Shares.{waits_in, BitFor};
-ghost use Rattle.arrival.specs.Arrivals.{Tests, Shelved, Filled, Arriving, Steady, Reconciling, Stands};
+ghost use Rattle.arrival.specs.Arrivals.{Shelved, Filled, Arriving, Steady, Reconciling, Stands};
 
-use crate::jump::{Jump, Visit};
+use crate::jump::Jump;
 use crate::memory::{set_stored, stored, visited};
-use collect::states::{Collected, collect_fold_unfolds};
-use join::trees::{Joined, join_into};
+use collect::states::collect_fold_unfolds;
+use join::trees::join_into;
 use mir::function::{local_types, rank_of};
 use queue::insert;
+use refusal::Refusal;
 use state::nodes::State;
 use state::share::{load_state, save_state};
-use statements::{Out, at_point, point_of, small};
-use type_record::record::wide;
+use statements::{Out, at_point, point_of};
 
 // The block c waits.
 fn wait(waits: &mut [u64], fun: &[u32], c: usize)
@@ -29,37 +29,14 @@ fn wait(waits: &mut [u64], fun: &[u32], c: usize)
     insert(waits, rank_of(fun, c));
 }
 
-// Are these words the same?
-fn same_words(a: &[u16], b: &[u16]) -> bool
-    requires { length a.now ≡ length b.now }
-    ensures { Tests result (a.now ≡ b.now) }
-{
-    let n = a.len();
-    let mut i = 0;
-    while i < n {
-        if a[i] != b[i] {
-            return false;
-        }
-        i += 1;
-    }
-    true
-}
-
 // Is the state the one that stands in this share, whose count is k?
 fn stands(k: u32, s: State, forms: &[u16], whats: &[u16]) -> bool
-    requires { Share forms.now whats.now }
-    ensures { Tests result (Stands k s forms.now whats.now) }
+    ensures { IsTrue result ↔ Stands k s forms.now whats.now }
 {
-    if k == 0 {
-        return false;
-    }
-    if wide(k) - 1 != s.nodes {
-        return false;
-    }
-    if same_words(forms, &s.forms) {
-        return same_words(whats, &s.whats);
-    }
-    false
+    k != 0
+        && k as usize - 1 == s.nodes
+        && forms == s.forms.as_slice()
+        && whats == s.whats.as_slice()
 }
 
 // The state is saved where none is stored, and joined with the one that is.
@@ -73,34 +50,33 @@ fn merge(
     s: State,
     forms: &mut [u16],
     whats: &mut [u16],
-) -> u32
+) -> Result<(), Refusal>
     requires accepted { Accepted types.now offs.now fun.now }
     requires stated { Stated types.now (local_types fun.now) s }
     requires shelved { Shelved types.now fun.now memo.old forms.old whats.old c }
     requires bit_for { BitFor fun.now c waits.old }
-    ensures arriving { Arriving types.now fun.now c s memo waits forms whats result }
+    ensures arriving { Arriving types.now fun.now c s memo waits forms whats (code result) }
     ensures lengths { Steady memo waits forms whats }
 {
     let k = stored(memo, c);
     if k == 0 {
         save_state(s, forms, whats);
-        set_stored(memo, c, small(s.nodes + 1));
+        set_stored(memo, c, s.nodes as u32 + 1);
         wait(waits, fun, c);
-        return 0;
+        return Ok(());
     }
-    let old = load_state(forms, whats, wide(k) - 1);
-    let j = join_into(types, offs, local_types(fun), old, s, forms, whats);
-    let Joined::To { nodes, changed } = j else {
-        return 9;
+    let old = load_state(forms, whats, k as usize - 1);
+    let Some(j) = join_into(types, offs, local_types(fun), old, s, forms, whats) else {
+        return Err(Refusal::StateFull);
     };
-    if changed {
-        set_stored(memo, c, small(nodes + 1));
+    if j.changed {
+        set_stored(memo, c, j.nodes as u32 + 1);
         wait(waits, fun, c);
     }
-    0
+    Ok(())
 }
 
-// `Infer::goto_join_point`: the state arrives at the block c: 0, or the refusal. A state that is stored there already changes nothing.
+// `Infer::goto_join_point`: the state arrives at the block c. A state that is stored there already changes nothing.
 pub fn arrive(
     types: &[u32],
     offs: &[u32],
@@ -111,17 +87,17 @@ pub fn arrive(
     s: State,
     forms: &mut [u16],
     whats: &mut [u16],
-) -> u32
+) -> Result<(), Refusal>
     requires accepted { Accepted types.now offs.now fun.now }
     requires stated { Stated types.now (local_types fun.now) s }
     requires shelved { Shelved types.now fun.now memo.old forms.old whats.old c }
     requires bit_for { BitFor fun.now c waits.old }
-    ensures arriving { Arriving types.now fun.now c s memo waits forms whats result }
+    ensures arriving { Arriving types.now fun.now c s memo waits forms whats (code result) }
     ensures lengths { Steady memo waits forms whats }
 {
     let k = stored(memo, c);
     if stands(k, s, forms, whats) {
-        return 0;
+        return Ok(());
     }
     merge(types, offs, fun, memo, waits, c, s, forms, whats)
 }
@@ -139,7 +115,7 @@ pub fn reconcile<'a>(
     whats: &'a [u16],
     out: &mut [u32],
     o: Out,
-) -> Visit
+) -> Result<Out, Refusal>
     requires accepted { Accepted types.now offs.now fun.now }
     requires stated { Stated types.now (local_types fun.now) s }
     requires filled { Filled types.now fun.now memo.now forms.now whats.now j.block }
@@ -149,26 +125,12 @@ pub fn reconcile<'a>(
     ensures reconciling { Reconciling types.now fun.now j s memo.now forms.now whats.now waits out o result }
     ensures lengths { length waits.new ≡ length waits.old }
 {
-    let c = j.block;
-    let k = stored(memo, c);
-    let to = load_state(forms, whats, wide(k) - 1);
-    let a = collect_fold_unfolds(
-        types,
-        offs,
-        local_types(fun),
-        s,
-        to,
-        out,
-        at_point(o, point_of(j.item, j.entry)),
-    );
-    match a {
-        Collected::Refused(n) => Visit::Refused(n),
-        Collected::Done(q) => {
-            if visited(memo, c) {
-                return Visit::Over(q);
-            }
-            wait(waits, fun, c);
-            Visit::Over(q)
-        }
+    let k = stored(memo, j.block);
+    let to = load_state(forms, whats, k as usize - 1);
+    let p = at_point(o, point_of(j.item, j.entry));
+    let q = collect_fold_unfolds(types, offs, local_types(fun), s, to, out, p)?;
+    if !visited(memo, j.block) {
+        wait(waits, fun, j.block);
     }
+    Ok(q)
 }

@@ -6,10 +6,10 @@ ghost use Rattle.arrival.specs.Shares.{arrays_in, change, Shared};
 ghost use Rattle.arrival.specs.Visits.{meeting, Ongoing, Meets, JumpIn};
 
 use crate::arrive::{arrive, reconcile};
-use crate::jump::{Jump, Visit};
+use crate::jump::Jump;
+use refusal::Refusal;
 use state::nodes::State;
 use statements::Out;
-use type_record::record::wide;
 
 // The state s arrives at a join point.
 pub fn meet(
@@ -25,7 +25,7 @@ pub fn meet(
     j: Jump,
     s: State,
     o: Out,
-) -> Visit
+) -> Result<Out, Refusal>
     requires accepted { Accepted types.now offs.now fun.now }
     requires shared { Shared fun.now points.now }
     requires ongoing { Ongoing types.now fun.now (arrays_in memo.old waits.old forms.old whats.old) out.old o s (meeting types.now fun.now j) }
@@ -33,8 +33,7 @@ pub fn meet(
     requires block_value { is_join_point fun.now j.block ≡ true }
     ensures { Meets types.now fun.now (change memo waits forms whats) out j s o result }
 {
-    let c = j.block;
-    let a = 512 * (wide(points[c]) - 1);
+    let a = 512 * (points[j.block] as usize - 1);
     let e = a + 512;
     if o.recording {
         return reconcile(
@@ -51,19 +50,16 @@ pub fn meet(
             o,
         );
     }
-    let r = arrive(
+    arrive(
         types,
         offs,
         fun,
         memo,
         waits,
-        c,
+        j.block,
         s,
         &mut forms[a..e],
         &mut whats[a..e],
-    );
-    if r != 0 {
-        return Visit::Refused(r);
-    }
-    Visit::Over(o)
+    )?;
+    Ok(o)
 }

@@ -14,7 +14,7 @@ use Rattle.assign.specs.Puts.{Room, Puts, RoomAll, PutsAll}
 use Rattle.assign.specs.declared.give.Pen.{Pen}
 use Rattle.assign.proofs.Reading.{First, ahead_first, ahead_last, ahead_at, assign_long}
 use Rattle.assign.proofs.Knowing.{list_read}
-use Rattle.assign.proofs.Putting.{puts_begun, puts_then, puts_length, room_then}
+use Rattle.assign.proofs.Putting.{puts_begun, puts_then, room_then}
 
 given_append : (ss ts : List Assign) → given (ss ++ ts) ≡ given ss ++ given ts
 unfolding given
@@ -40,9 +40,6 @@ along_start {ws} {out} {p} e z =
     record { before = []; left = R.all; is = R.is; ahead = subst (λ (n : ℕ). Ahead ws n R.all) (sym z) R.ahead; puts = puts_begun }
 
 module _ {ws out : List ℕ} {p : Pen} {out' : List ℕ} {q : Pen} (A : Along ws out p out' q) where
-  pub along_length : length out' ≡ length out
-  along_length = puts_length A.puts
-
   pub along_end : length ws ≤ q.from → PutsAll ws out p out' q
   along_end l ss e =
       let n = ahead_last ws A.ahead l in

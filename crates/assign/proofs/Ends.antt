@@ -7,6 +7,7 @@ use native.Mathlib.Omega.{arith}
 use lib.ListN.{length}
 use lib.Dec.{eqb, leb}
 use borrow.Author.Tests.{eq-eqb, ne_eqb, le-leb, lt-leb}
+use Rattle.std.specs.Prelude.{Some, None}
 use Rattle.model.specs.Words.{word}
 use Rattle.model.specs.Assign.{operand_ok}
 use Rattle.assign.specs.Operands.{elements_ok, operand_places}
@@ -16,7 +17,7 @@ use Rattle.assign.proofs.Elements.{items_next}
 
 module _ (ws : List ℕ) (at n : ℕ) (l : at < length ws) (e : n ≡ word ws at) where
   -- it is cut off
-  pub end_cut : (length ws - at - 1) / 2 < n → 0 ≡ place_end ws at
+  pub end_cut : (length ws - at - 1) / 2 < n → None ≡ place_end ws at
   unfolding place_end
   end_cut h = rw (lt-leb (operand_end ws at) (length ws) (omega arith)) refl
 
@@ -29,7 +30,7 @@ module _ (ws : List ℕ) (at n : ℕ) (l : at < length ws) (e : n ≡ word ws at
     ends = omega arith
 
     -- a constant
-    pub end_constant : n ≡ 0 → at + 1 + 2 * n ≡ place_end ws at
+    pub end_constant : n ≡ 0 → Some (at + 1 + 2 * n) ≡ place_end ws at
     unfolding place_end operand_ok items_at
     end_constant z =
         let w : word ws at ≡ 0 = sym e ∙ z in
@@ -45,15 +46,15 @@ module _ (ws : List ℕ) (at n : ℕ) (l : at < length ws) (e : n ≡ word ws at
           let b : at + 1 + 2 ≡ at + 3 = omega arith in
           rw (items_next ws (suc at) (word ws at) (n - 1) s, a, b) (operand_places (word ws (at + 1), word ws (at + 1 + 1)) (items_at ws (at + 3) (n - 1)))
 
-      pub end_rootless : (word ws (at + 1) ≡ 0 → ⊥) → 0 ≡ place_end ws at
+      pub end_rootless : (word ws (at + 1) ≡ 0 → ⊥) → None ≡ place_end ws at
       unfolding place_end
       end_rootless r = cc (inside, tested, ne_eqb (word ws (at + 1)) 0 r)
 
       module _ (r : word ws (at + 1) ≡ 0) {b : Bool} (t : b ≡ elements_ok (items_at ws (at + 3) (n - 1))) where
-        pub end_other : b ≡ false → 0 ≡ place_end ws at
+        pub end_other : b ≡ false → None ≡ place_end ws at
         unfolding place_end
         end_other f = cc (inside, tested, eq-eqb (word ws (at + 1)) 0 r)
 
-        pub end_place : b ≡ true → at + 1 + 2 * n ≡ place_end ws at
+        pub end_place : b ≡ true → Some (at + 1 + 2 * n) ≡ place_end ws at
         unfolding place_end
         end_place f = cc (inside, ends, tested, eq-eqb (word ws (at + 1)) 0 r)

@@ -12,7 +12,9 @@ use Rattle.model.specs.Record.{Entry}
 use Rattle.model.specs.Assign.{Operand, operand_gives, operands_give, gives}
 use Rattle.assign.specs.Words.{operand_at, operand_end, operands_at, operands_end, destination_at, assign_at, assign_end}
 use Rattle.assign.specs.Puts.{moved, Room, Puts, acting}
+use Rattle.assign.specs.Kinds.{kind_code, kind_named}
 use Rattle.assign.specs.declared.give.Pen.{Pen}
+use Rattle.assign.proofs.KindLaws.{operands_named, seven_named}
 use Rattle.assign.proofs.Putting.{puts_none, puts_then, pen_from, room_less, room_then}
 use Rattle.assign.proofs.Placing.{puts_moved, room_moved}
 use Rattle.assign.proofs.Reading.{operands_up, split_end, split_at}
@@ -119,7 +121,7 @@ module _ (ws : List ℕ) (kind flag k at i : ℕ) (l : i < k) where
 
 -- A STATEMENT
 
-module _ (ws : List ℕ) (p : Pen) {q : Pen} {kind flag k : ℕ} (t : kind ≡ word ws p.from) (u : flag ≡ word ws (p.from + 1)) (v : k ≡ word ws (p.from + 2))
+module _ (ws : List ℕ) (p : Pen) {q : Pen} {kind flag k : ℕ} (t : kind ≡ kind_code (kind_named (word ws p.from))) (u : flag ≡ word ws (p.from + 1)) (v : k ≡ word ws (p.from + 2))
     (e : q ≡ moved p (p.from + 3) p.at) where
   -- where its operands are read
   read_from : q.from ≡ p.from + 3
@@ -138,7 +140,7 @@ module _ (ws : List ℕ) (p : Pen) {q : Pen} {kind flag k : ℕ} (t : kind ≡ w
       let x : suc p.from ≡ p.from + 1 = omega arith in
       let y : suc (suc p.from) ≡ p.from + 2 = omega arith in
       let z : suc (suc (suc p.from)) ≡ p.from + 3 = omega arith in
-      rw (dest_at, read_from, t, u, v, z, y, x) refl
+      rw (dest_at, read_from, t, operands_named (word ws p.from), seven_named (word ws p.from), u, v, z, y, x) refl
 
   abbrev first_given : List Entry
   first_given = operands_give kind flag (operands_at ws k q.from)
@@ -146,10 +148,7 @@ module _ (ws : List ℕ) (p : Pen) {q : Pen} {kind flag k : ℕ} (t : kind ≡ w
   abbrev last_given : ℕ → ℕ → List Entry
   last_given action at = acting false action (operand_at ws at)
 
-  -- its operands lie inside, and there is room for them
-  pub statement_inside : assign_end ws p.from ≤ length ws → operands_end ws k q.from ≤ length ws
-  statement_inside h = omega (arith, h, dest_at)
-
+  -- there is room for its operands
   pub statement_room : {out : List ℕ} → Room out p (length (gives (assign_at ws p.from))) → Room out q (length first_given)
   statement_room {out} R = room_moved e (room_less (length first_given) R
       (omega (arith, ap (λ (x : List Entry). length x) all_given, length-append first_given (last_given (cond (eqb kind 7) 7 5) (operands_end ws k q.from)))))
@@ -157,11 +156,6 @@ module _ (ws : List ℕ) (p : Pen) {q : Pen} {kind flag k : ℕ} (t : kind ≡ w
   module _ {out out₁ : List ℕ} {r : Pen} {action : ℕ} (a : action ≡ cond (eqb kind 7) 7 5) (P : Puts out q out₁ r (operands_end ws k q.from) first_given) where
     at_dest : r.from ≡ operands_end ws k q.from
     at_dest = pen_from P
-
-    pub dest_inside : assign_end ws p.from ≤ length ws → operand_end ws r.from ≤ length ws
-    dest_inside h =
-        let z : operand_end ws r.from ≡ assign_end ws p.from = ap (operand_end ws) (at_dest ∙ dest_at) in
-        omega (arith, h, z)
 
     whole : gives (assign_at ws p.from) ≡ first_given ++ last_given action r.from
     whole =

@@ -14,6 +14,8 @@ use Rattle.base.specs.Tests.{split, clash}
 use Rattle.base.specs.Answer.{split_answer}
 use Rattle.assign.specs.Words.{items_at, operand_end, operands_at, operands_end, destination_at, assign_at, assign_end, Ahead}
 use Rattle.assign.specs.Checked.{list_ok, words_known, known_in}
+use Rattle.assign.specs.Kinds.{kind_code, kind_named}
+use Rattle.assign.proofs.KindLaws.{known_named}
 use Rattle.assign.proofs.Reading.{list_ahead, First, ahead_first, ahead_last, assign_long}
 
 -- items are none if their number is 0
@@ -110,9 +112,6 @@ module _ {ws : List ℕ} {at : ℕ} (K : Knowing ws at) where
           let z : suc (suc (suc at)) ≡ at + 3 = omega arith in
           rw (z, y, s) refl
 
-      pub knowing_operands : operands_end ws k (at + 3) ≤ length ws
-      knowing_operands = omega (arith, first.inside, ended)
-
       module _ {last : ℕ} (d : last ≡ operands_end ws k (at + 3)) where
         place : destination_at ws at ≡ last
         place = sym (d ∙ ended)
@@ -126,13 +125,13 @@ module _ {ws : List ℕ} {at : ℕ} (K : Knowing ws at) where
         pub knowing_far : 4 + at ≤ last + 1 + 2 * word ws last
         knowing_far = omega (arith, assign_long ws at, next)
 
-        module _ {b : Bool} (e : b ≡ words_known (word ws at) (word ws (at + 1)) (word ws (at + 2)) (word ws (at + 3)) (word ws last)) where
+        module _ {b : Bool} (e : b ≡ words_known (kind_code (kind_named (word ws at))) (word ws (at + 1)) (word ws (at + 2)) (word ws (at + 3)) (word ws last)) where
           tested : known (assign_at ws at) ≡ b
           tested =
               let x : suc at ≡ at + 1 = omega arith in
               let y : suc (suc at) ≡ at + 2 = omega arith in
               let z : suc (suc (suc at)) ≡ at + 3 = omega arith in
-              known_words ws at ∙ rw (place, z, y, x) (sym e)
+              known_words ws at ∙ rw (place, z, y, x) (sym (e ∙ known_named (word ws at) (word ws (at + 1)) (word ws (at + 2)) (word ws (at + 3)) (word ws last)))
 
           pub knowing_stop : b ≡ false → false ≡ known_in (statements_of ws)
           unfolding all_known

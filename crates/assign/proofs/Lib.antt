@@ -5,8 +5,8 @@ pub mod Reading
 pub mod Elements
 -- where an operand ends
 pub mod Ends
--- what a kind has
-pub mod Flags
+-- kinds and their numbers
+pub mod KindLaws
 -- which statements there are
 pub mod Knowing
 -- items put in a row

@@ -35,7 +35,7 @@ acting_none ws false a at n e = rw e refl
 module _ {out : List ℕ} {p q : Pen} {f : ℕ} (e : q ≡ moved p f p.at) where
   pub puts_moved : {out' : List ℕ} {r : Pen} {g : ℕ} {es : List Entry} → Puts out q out' r g es → Puts out p out' r g es
   puts_moved {out'} {r} {g} {es} P = record {
-    written = P.written ∙ ap (λ (x : Pen). puttings x.writing x.total x.at es out) e;
+    written = P.written ∙ ap (λ (x : Pen). puttings x.total x.at es out) e;
     pen = P.pen ∙ ap (λ (x : Pen). moved x g (x.at + length es)) e;
   }
 

@@ -1,13 +1,14 @@
 -- All items put into zeros are model's record; items that are only counted leave the buffer as it is; and for each item of the list
 -- there are at most three.
 use mathlib.Core.Path.{◌≡◌, refl, ap, ◌∙◌}
-use mathlib.Core.Bool.{true, false, cond, ◌&&◌}
+use mathlib.Core.Bool.{cond, ◌&&◌}
 use mathlib.Core.List.{List, [], ◌∷◌, ◌++◌, map}
 use Prim.Native.Nat.{ℕ, zero, suc, ◌+◌, ◌*◌, ◌-◌, ◌≤◌}
 use native.Mathlib.Omega.{arith}
 use lib.ListN.{length, set, drop, replicate, length-append, length-map, length-replicate}
 use lib.Seq.{sets, sets-eq, set_comm, take_at, drop-append-add}
 use lib.Dec.{eqb}
+use Rattle.std.specs.Prelude.{Some, None}
 use Rattle.model.specs.Record.{Entry, lent}
 use Rattle.model.specs.Assign.{Operand, Assign, places, items_in, acted, dereffed, operand_gives, operands_give, gives, given, item_record}
 use Rattle.base.specs.Tests.{split}
@@ -17,10 +18,10 @@ use Rattle.assign.proofs.Elements.{items_append}
 
 -- COUNTED
 
-pub puttings_dry : (total at : ℕ) (es : List Entry) (out : List ℕ) → puttings false total at es out ≡ out
+pub puttings_dry : (at : ℕ) (es : List Entry) (out : List ℕ) → puttings None at es out ≡ out
 unfolding puttings putting
-puttings_dry total at [] out = refl
-puttings_dry total at (e ∷ es) out = puttings_dry total (at + 1) es out
+puttings_dry at [] out = refl
+puttings_dry at (e ∷ es) out = puttings_dry (at + 1) es out
 
 -- AT MOST THREE FOR EACH ITEM OF THE LIST
 
@@ -78,7 +79,7 @@ sets_set (v ∷ vs) l i j a h = rw (set_comm l j i a v (λ e. absurd (omega arit
 
 -- two rows
 puttings_rows : (total at : ℕ) (es : List Entry) (out : List ℕ) → at + length es ≤ total
-    → puttings true total at es out ≡ sets (sets out (1 + at) (map (λ e. e.0) es)) (1 + total + at) (map (λ e. e.1) es)
+    → puttings (Some total) at es out ≡ sets (sets out (1 + at) (map (λ e. e.0) es)) (1 + total + at) (map (λ e. e.1) es)
 unfolding puttings putting
 puttings_rows total at [] out h = refl
 puttings_rows total at (e ∷ es) out h =
@@ -98,7 +99,7 @@ row front vs m i e h =
     sets-eq vs (front ++ replicate m 0) i (omega arith) ∙ rw (take_at front (replicate m 0) i e, d) refl
 
 -- all of them, in zeros
-pub written_whole : (n : ℕ) (es : List Entry) → 1 + 2 * length es ≤ n → puttings true (length es) 0 es (set (replicate n 0) 0 (length es)) ≡ lent n (item_record es)
+pub written_whole : (n : ℕ) (es : List Entry) → 1 + 2 * length es ≤ n → puttings (Some (length es)) 0 es (set (replicate n 0) 0 (length es)) ≡ lent n (item_record es)
 unfolding lent item_record
 written_whole zero es h = absurd (omega arith)
 written_whole (suc m) es h =

@@ -1,22 +1,16 @@
 -- What the call answers, and the buffer.
-use Rattle.std.specs.Prelude.{◌≡◌, List, ℕ, length}
-use Rattle.model.specs.Answer.{Answer, refused, done}
-use Rattle.model.specs.Record.{Entry}
+use Rattle.std.specs.Prelude.{◌≡◌, Result, Err, List, ℕ, length}
+use Rattle.model.specs.Answer.{done, ◌>>=◌}
 use Rattle.model.specs.Promised.{OneOf, statement_numbers}
 use Rattle.model.specs.Assign.{statement_items, items_lent}
-use Rattle.assign.specs.declared.Items.{Items}
-use Rattle.assign.specs.declared.Items.TheVariants.{Done, Refused}
-
--- an answer as the code has it
-abbrev pub answered : Answer (List Entry) → Items
-answered (refused r) = Refused r
-answered (done es) = Done (length es)
+use Rattle.refusal.specs.declared.Refusal.{Refusal}
+use Rattle.refusal.specs.Refusal.{number, answered}
 
 -- a refusal's number
-abbrev pub Numbered : Items → Type 0
-Numbered r = (n : ℕ) → r ≡ Refused n → OneOf statement_numbers n
+abbrev pub Numbered : Result ℕ Refusal → Type 0
+Numbered r = (e : Refusal) → r ≡ Err e → OneOf statement_numbers (number e)
 
--- of a list of words, and a buffer of n
-pub record Gives (ws : List ℕ) (n : ℕ) (out' : List ℕ) (r : Items) : Type 0 where
-  pub answer : r ≡ answered (statement_items ws n)
+-- of a list of words, and a buffer of n: model's answer, by the number of its items
+pub record Gives (ws : List ℕ) (n : ℕ) (out' : List ℕ) (r : Result ℕ Refusal) : Type 0 where
+  pub answer : answered r ≡ statement_items ws n >>= λ es. done (length es)
   pub left : out' ≡ items_lent n (statement_items ws n)

@@ -1,19 +1,19 @@
 -- The tests of a list, as the code makes them one by one.
-use Rattle.std.specs.Prelude.{Bool, true, false, cond, not, ◌&&◌, List, ℕ, zero, suc, length, eqb, ltb, leb}
+use Rattle.std.specs.Prelude.{Bool, true, false, cond, not, ◌&&◌, List, ℕ, zero, suc, Option, Some, None, length, eqb, ltb, leb}
 use Rattle.model.specs.Answer.{Answer, refused, done}
 use Rattle.model.specs.Assign.{Assign, operand_ok, flag_ok, count_ok, wants_place, all_known, statements_of}
 use Rattle.assign.specs.Words.{operand_at, operand_end}
 
--- the end of an operand that is a constant or a place; 0 where it is cut off, or neither
-unfoldable pub place_end : List ℕ → ℕ → ℕ
-place_end ws at = cond (leb (operand_end ws at) (length ws) && operand_ok (operand_at ws at)) (operand_end ws at) 0
+-- the end of an operand that is a constant or a place; none where it is cut off, or neither
+unfoldable pub place_end : List ℕ → ℕ → Option ℕ
+place_end ws at = cond (leb (operand_end ws at) (length ws) && operand_ok (operand_at ws at)) (Some (operand_end ws at)) None
 
 -- of k operands
-unfoldable pub places_end : List ℕ → ℕ → ℕ → ℕ
-places_end ws zero at = at
+unfoldable pub places_end : List ℕ → ℕ → ℕ → Option ℕ
+places_end ws zero at = Some at
 places_end ws (suc k) at = elim (ltb at (length ws)) [
-  | true ↦ elim (place_end ws at) [ zero ↦ 0 | suc e ↦ places_end ws k (suc e) ]
-  | false ↦ 0
+  | true ↦ elim (place_end ws at) [ None ↦ None | Some e ↦ places_end ws k e ]
+  | false ↦ None
 ]
 
 -- model's answer

@@ -3,6 +3,8 @@
 pub mod Operands
 -- a list by the words in which it stands
 pub mod Words
+-- the kinds of statements
+pub mod Kinds
 -- the tests of a list, as the code makes them
 pub mod Checked
 -- items put into a lent buffer

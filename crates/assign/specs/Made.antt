@@ -9,7 +9,6 @@ use Prim.Native.Nat.{ℕ, zero, suc, ◌+◌, ◌-◌, ◌≤◌, ◌<◌}
 use native.Mathlib.Omega.{arith}
 use Rattle.std.proofs.Math.Dec.{ltb}
 use borrow.Author.Tests.{ltb-true, lt-ltb, le-ltb, leb-true, ne_eqb}
-use Rattle.model.specs.Words.{all}
 use Rattle.model.specs.Answer.{done}
 use Rattle.model.specs.Record.{Entry}
 use Rattle.model.specs.State.{locals_ok}

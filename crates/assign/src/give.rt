@@ -1,34 +1,22 @@
 // The items that a list of statements gives, written as count, op[], arg[]; or only counted.
 ghost use Rattle.std.specs.Prelude.{◌≡◌, true, cond, ◌&&◌, [], ◌∷◌, ◌+◌, ◌*◌, ◌≤◌, length, eqb};
 ghost use Rattle.model.specs.Assign.{operand_gives, operands_give, gives};
+ghost use Rattle.assign.specs.Kinds.{kind_code};
 ghost use Rattle.assign.specs.Words.{items_at, operand_at, operand_end, operands_at, operands_end, assign_at, assign_end};
 ghost use Rattle.assign.specs.Checked.{list_ok};
-ghost use Rattle.assign.specs.Puts.{moved, Room, Puts, ending, acting, RoomAll, PutsAll};
+ghost use Rattle.assign.specs.Puts.{Room, Puts, ending, acting, RoomAll, PutsAll};
 
-use crate::known::{DISCRIMINANT, REF, UNARY_OP};
+use crate::known::Rvalue;
 use crate::list::operands_end;
 use mir::items::{DEREF, NOTE, READ, USE};
-use type_record::record::wide;
 
-// Where reading and writing have come to: the word of the list, and the item, of so many in all. Nothing is written where items are
-// only counted.
+// Where reading and writing have come to: the word of the list, and the item, of so many in all. With no total items are only
+// counted, and nothing is written.
 #[derive(Clone, Copy)]
 pub struct Pen {
     pub from: usize,
     pub at: usize,
-    pub total: usize,
-    pub writing: bool,
-}
-
-fn moved(p: Pen, from: usize, at: usize) -> Pen
-    ensures { result ≡ moved p from at }
-{
-    Pen {
-        from,
-        at,
-        total: p.total,
-        writing: p.writing,
-    }
+    pub total: Option<usize>,
 }
 
 // One item.
@@ -36,16 +24,11 @@ fn put(out: &mut [u32], p: Pen, op: u32, arg: u32) -> Pen
     requires { Room out.old p 1 }
     ensures { Puts out.old p out.new result p.from ((op, arg) ∷ []) }
 {
-    let k = p.at;
-    let q = moved(p, p.from, k + 1);
-    if !p.writing {
-        return q;
+    if let Some(total) = p.total {
+        out[1 + p.at] = op;
+        out[1 + total + p.at] = arg;
     }
-    let a = 1 + k;
-    let b = 1 + p.total + k;
-    out[a] = op;
-    out[b] = arg;
-    q
+    Pen { at: p.at + 1, ..p }
 }
 
 // The n items from word `at` of the list on.
@@ -55,11 +38,9 @@ fn put_items(out: &mut [u32], p: Pen, list: &[u32], at: usize, n: usize) -> Pen
     ensures { Puts out.old p out.new result p.from (items_at list.now at n) }
 {
     let mut q = p;
-    let mut i = 0;
-    while i < n {
+    for i in 0..n {
         let o = at + 2 * i;
         q = put(out, q, list[o], list[o + 1]);
-        i += 1;
     }
     q
 }
@@ -83,9 +64,11 @@ fn put_place(out: &mut [u32], p: Pen, list: &[u32], deref: bool, action: u32) ->
     ensures { Puts out.old p out.new result (operand_end list.now p.from) (acting deref action (operand_at list.now p.from)) }
 {
     let from = p.from;
-    let n = wide(list[from]);
-    let end = from + 1 + 2 * n;
-    let q = moved(p, end, p.at);
+    let n = list[from] as usize;
+    let q = Pen {
+        from: from + 1 + 2 * n,
+        ..p
+    };
     if n == 0 {
         return q;
     }
@@ -94,55 +77,53 @@ fn put_place(out: &mut [u32], p: Pen, list: &[u32], deref: bool, action: u32) ->
 }
 
 // Is it this kind, and is its flag 1?
-fn flagged(kind: u32, flag: u32, of: u32) -> bool
-    ensures { result ≡ eqb kind of && eqb flag 1 }
+fn flagged(kind: Rvalue, flag: u32, of: Rvalue) -> bool
+    ensures { result ≡ eqb (kind_code kind) (kind_code of) && eqb flag 1 }
 {
-    if kind != of {
-        return false;
-    }
-    flag == 1
+    kind == of && flag == 1
 }
 
 // An operand of a statement of this kind and flag.
-fn put_operand(out: &mut [u32], p: Pen, list: &[u32], kind: u32, flag: u32) -> Pen
+fn put_operand(out: &mut [u32], p: Pen, list: &[u32], kind: Rvalue, flag: u32) -> Pen
     requires from_in_bounds { operand_end list.now p.from ≤ length list.now }
-    requires room { Room out.old p (length (operand_gives kind flag (operand_at list.now p.from))) }
-    ensures { Puts out.old p out.new result (operand_end list.now p.from) (operand_gives kind flag (operand_at list.now p.from)) }
+    requires room { Room out.old p (length (operand_gives (kind_code kind) flag (operand_at list.now p.from))) }
+    ensures { Puts out.old p out.new result (operand_end list.now p.from) (operand_gives (kind_code kind) flag (operand_at list.now p.from)) }
 {
-    if flagged(kind, flag, REF) {
-        let end = operands_end(list, p.from, 1);
-        return moved(p, end, p.at);
+    if flagged(kind, flag, Rvalue::Ref) {
+        return Pen {
+            from: operands_end(list, p.from, 1),
+            ..p
+        };
     }
-    if kind == DISCRIMINANT {
+    if kind == Rvalue::Discriminant {
         return put_place(out, p, list, false, READ);
     }
-    let deref = flagged(kind, flag, UNARY_OP);
+    let deref = flagged(kind, flag, Rvalue::UnaryOp);
     put_place(out, p, list, deref, USE)
 }
 
 // Its k operands.
-fn put_operands(out: &mut [u32], p: Pen, list: &[u32], kind: u32, flag: u32, k: usize) -> Pen
+fn put_operands(out: &mut [u32], p: Pen, list: &[u32], kind: Rvalue, flag: u32, k: usize) -> Pen
     requires from_in_bounds { operands_end list.now k p.from ≤ length list.now }
-    requires room { Room out.old p (length (operands_give kind flag (operands_at list.now k p.from))) }
-    ensures { Puts out.old p out.new result (operands_end list.now k p.from) (operands_give kind flag (operands_at list.now k p.from)) }
+    requires room { Room out.old p (length (operands_give (kind_code kind) flag (operands_at list.now k p.from))) }
+    ensures { Puts out.old p out.new result (operands_end list.now k p.from) (operands_give (kind_code kind) flag (operands_at list.now k p.from)) }
 {
     let mut q = p;
-    let mut i = 0;
-    while i < k {
+    for _ in 0..k {
         q = put_operand(out, q, list, kind, flag);
-        i += 1;
     }
     q
 }
 
 // What is done with the destination.
-fn destined(kind: u32) -> u32
-    ensures { result ≡ cond (eqb kind 7) 7 5 }
+fn destined(kind: Rvalue) -> u32
+    ensures { result ≡ cond (eqb (kind_code kind) 7) 7 5 }
 {
-    if kind == DISCRIMINANT {
-        return NOTE;
+    if kind == Rvalue::Discriminant {
+        NOTE
+    } else {
+        USE
     }
-    USE
 }
 
 // The statement that is read next: its operands as they stand, then the destination.
@@ -152,10 +133,14 @@ fn put_statement(out: &mut [u32], p: Pen, list: &[u32]) -> Pen
     ensures { Puts out.old p out.new result (assign_end list.now p.from) (gives (assign_at list.now p.from)) }
 {
     let from = p.from;
-    let kind = list[from];
+    let kind = Rvalue::from(list[from]);
     let flag = list[from + 1];
-    let k = wide(list[from + 2]);
-    let q = put_operands(out, moved(p, from + 3, p.at), list, kind, flag, k);
+    let k = list[from + 2] as usize;
+    let head = Pen {
+        from: from + 3,
+        ..p
+    };
+    let q = put_operands(out, head, list, kind, flag, k);
     put_place(out, q, list, false, destined(kind))
 }
 

@@ -1,86 +1,88 @@
 // Which statements there are: refusal 11.
 ghost use Rattle.std.specs.Prelude.{◌≡◌, true};
 ghost use Rattle.model.specs.Assign.{flag_ok, count_ok, wants_place, statements_of};
+ghost use Rattle.assign.specs.Kinds.{kind_code, kind_named};
 ghost use Rattle.assign.specs.Checked.{list_ok, words_known, known_in};
 
 use crate::list::operands_end;
-use type_record::record::wide;
 
-// The kinds of statements, by `Rvalue` of the source.
-pub const REF: u32 = 2;
+// The kinds of statements, as `Rvalue` of the source has them. Other: a number above 8, which names none.
+#[derive(Clone, Copy, Debug, PartialEq, Eq)]
+pub enum Rvalue {
+    Use,
+    Repeat,
+    Ref,
+    RawPtr,
+    Cast,
+    BinaryOp,
+    UnaryOp,
+    Discriminant,
+    Aggregate,
+    Other,
+}
 
-pub const RAW_PTR: u32 = 3;
+impl From<u32> for Rvalue {
+    ghost from_gives = { λ n k. k ≡ kind_named n };
 
-pub const BINARY_OP: u32 = 5;
-
-pub const UNARY_OP: u32 = 6;
-
-pub const DISCRIMINANT: u32 = 7;
-
-pub const AGGREGATE: u32 = 8;
+    #[tactic(auto, unfolding(crate::specs::Kinds::kind_named))]
+    fn from(n: u32) -> Rvalue {
+        match n {
+            0 => Rvalue::Use,
+            1 => Rvalue::Repeat,
+            2 => Rvalue::Ref,
+            3 => Rvalue::RawPtr,
+            4 => Rvalue::Cast,
+            5 => Rvalue::BinaryOp,
+            6 => Rvalue::UnaryOp,
+            7 => Rvalue::Discriminant,
+            8 => Rvalue::Aggregate,
+            _ => Rvalue::Other,
+        }
+    }
+}
 
 // Has the kind this flag?
-fn flag_ok(kind: u32, flag: u32) -> bool
-    ensures { result ≡ flag_ok kind flag }
+#[tactic(auto, unfolding(model::specs::Assign::flag_ok))]
+fn flag_ok(kind: Rvalue, flag: u32) -> bool
+    ensures { result ≡ flag_ok (kind_code kind) flag }
 {
-    if flag == 0 {
-        return true;
+    match flag {
+        0 => true,
+        1 => matches!(kind, Rvalue::Ref | Rvalue::UnaryOp),
+        _ => false,
     }
-    if flag != 1 {
-        return false;
-    }
-    if kind == REF {
-        return true;
-    }
-    kind == UNARY_OP
 }
 
 // And so many operands?
-fn count_ok(kind: u32, count: u32) -> bool
-    ensures { result ≡ count_ok kind count }
+#[tactic(auto, unfolding(model::specs::Assign::count_ok))]
+fn count_ok(kind: Rvalue, count: u32) -> bool
+    ensures { result ≡ count_ok (kind_code kind) count }
 {
-    if kind == AGGREGATE {
-        return true;
+    match kind {
+        Rvalue::Aggregate => true,
+        Rvalue::BinaryOp => count == 2,
+        _ => count == 1,
     }
-    if kind == BINARY_OP {
-        return count == 2;
-    }
-    count == 1
 }
 
 // Has its operand to be a place?
-fn wants_place(kind: u32) -> bool
-    ensures { result ≡ wants_place kind }
+#[tactic(auto, unfolding(model::specs::Assign::wants_place))]
+fn wants_place(kind: Rvalue) -> bool
+    ensures { result ≡ wants_place (kind_code kind) }
 {
-    if kind == REF {
-        return true;
-    }
-    if kind == RAW_PTR {
-        return true;
-    }
-    kind == DISCRIMINANT
+    matches!(kind, Rvalue::Ref | Rvalue::RawPtr | Rvalue::Discriminant)
 }
 
 // first, last: how many items the first operand and the destination have.
-fn words_known(kind: u32, flag: u32, count: u32, first: u32, last: u32) -> bool
-    ensures { result ≡ words_known kind flag count first last }
+#[tactic(auto, unfolding(crate::specs::Checked::words_known))]
+fn words_known(kind: Rvalue, flag: u32, count: u32, first: u32, last: u32) -> bool
+    ensures { result ≡ words_known (kind_code kind) flag count first last }
 {
-    if AGGREGATE < kind {
-        return false;
-    }
-    if !flag_ok(kind, flag) {
-        return false;
-    }
-    if !count_ok(kind, count) {
-        return false;
-    }
-    if wants_place(kind) {
-        if first == 0 {
-            return false;
-        }
-        return last != 0;
-    }
-    last != 0
+    kind != Rvalue::Other
+        && flag_ok(kind, flag)
+        && count_ok(kind, count)
+        && !(wants_place(kind) && first == 0)
+        && last != 0
 }
 
 // Is each statement of a list that passes one?
@@ -91,12 +93,13 @@ pub fn all_known(list: &[u32]) -> bool
     let n = list.len();
     let mut at = 0;
     while at < n {
+        let kind = Rvalue::from(list[at]);
         let k = list[at + 2];
-        let last = operands_end(list, at + 3, wide(k));
-        if !words_known(list[at], list[at + 1], k, list[at + 3], list[last]) {
+        let last = operands_end(list, at + 3, k as usize);
+        if !words_known(kind, list[at + 1], k, list[at + 3], list[last]) {
             return false;
         }
-        at = last + 1 + 2 * wide(list[last]);
+        at = last + 1 + 2 * list[last] as usize;
     }
     true
 }

@@ -7,50 +7,40 @@ ghost use Rattle.assign.specs.Answers.{Gives, Numbered};
 use give::{Pen, put_all};
 use known::all_known;
 use list::list_ok;
+use refusal::Refusal;
 use statements::{small, wipe};
 
 pub mod give;
 pub mod known;
 pub mod list;
 
-#[derive(Drop)]
-pub enum Items {
-    Done(usize),
-    Refused(u32),
-}
-
-// The items of a list of statements, in the buffer: count, op[], arg[], then zeros. A refusal leaves zeros.
-pub fn statement_items(list: &[u32], out: &mut [u32]) -> Items
+// The items of a list of statements, in the buffer: count, op[], arg[], then zeros; their number. A refusal leaves zeros.
+pub fn statement_items(list: &[u32], out: &mut [u32]) -> Result<usize, Refusal>
     ensures gives { Gives list.now (length out.old) out.new result }
     ensures numbered { Numbered result }
 {
     wipe(out);
     if !list_ok(list) {
-        return Items::Refused(2);
+        return Err(Refusal::BadFunction);
     }
     if !all_known(list) {
-        return Items::Refused(11);
+        return Err(Refusal::UnknownStatement);
     }
     let none = Pen {
         from: 0,
         at: 0,
-        total: 0,
-        writing: false,
+        total: None,
     };
     let n = put_all(out, none, list).at;
-    if out.len() == 0 {
-        return Items::Refused(10);
-    }
-    if (out.len() - 1) / 2 < n {
-        return Items::Refused(10);
+    if out.is_empty() || (out.len() - 1) / 2 < n {
+        return Err(Refusal::ShortStore);
     }
     out[0] = small(n);
     let all = Pen {
         from: 0,
         at: 0,
-        total: n,
-        writing: true,
+        total: Some(n),
     };
     put_all(out, all, list);
-    Items::Done(n)
+    Ok(n)
 }

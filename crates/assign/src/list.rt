@@ -6,7 +6,6 @@ ghost use Rattle.assign.specs.Words.{items_at, operands_end};
 ghost use Rattle.assign.specs.Checked.{place_end, places_end, list_ok};
 
 use mir::items::{ROOT, is_element};
-use type_record::record::wide;
 
 // Of 16,384 items.
 pub const MOST_WORDS: usize = 32768;
@@ -16,56 +15,42 @@ fn elements_ok(list: &[u32], at: usize, n: usize) -> bool
     requires { at + 2 * n ≤ length list.now }
     ensures { result ≡ elements_ok (items_at list.now at n) }
 {
-    let mut i = 0;
-    while i < n {
+    for i in 0..n {
         let o = at + 2 * i;
         if !is_element(list[o], list[o + 1]) {
             return false;
         }
-        i += 1;
     }
     true
 }
 
-// The end of the operand whose number of items is word `at`; 0 if it is cut off, or its items are no place.
-fn place_end(list: &[u32], at: usize) -> usize
+// The end of the operand whose number of items is word `at`; none if it is cut off, or its items are no place.
+fn place_end(list: &[u32], at: usize) -> Option<usize>
     requires { at < length list.now }
     ensures { result ≡ place_end list.now at }
 {
-    let n = wide(list[at]);
+    let n = list[at] as usize;
     if (list.len() - at - 1) / 2 < n {
-        return 0;
+        return None;
     }
-    let end = at + 1 + 2 * n;
-    if n == 0 {
-        return end;
+    if n != 0 && (list[at + 1] != ROOT || !elements_ok(list, at + 3, n - 1)) {
+        return None;
     }
-    if list[at + 1] != ROOT {
-        return 0;
-    }
-    if !elements_ok(list, at + 3, n - 1) {
-        return 0;
-    }
-    end
+    Some(at + 1 + 2 * n)
 }
 
-// The end of k operands; 0 if one is cut off or no place.
-fn places_end(list: &[u32], at: usize, k: usize) -> usize
+// The end of k operands; none if one is cut off or no place.
+fn places_end(list: &[u32], at: usize, k: usize) -> Option<usize>
     ensures { result ≡ places_end list.now k at }
 {
     let mut a = at;
-    let mut i = 0;
-    while i < k {
+    for _ in 0..k {
         if list.len() <= a {
-            return 0;
+            return None;
         }
-        a = place_end(list, a);
-        if a == 0 {
-            return 0;
-        }
-        i += 1;
+        a = place_end(list, a)?;
     }
-    a
+    Some(a)
 }
 
 // The list passes: it ends where a statement does, has no more than 16,384 items, and its operands are places or constants.
@@ -79,11 +64,10 @@ pub fn list_ok(list: &[u32]) -> bool
         if n - at < 4 {
             return false;
         }
-        let k = wide(list[at + 2]) + 1;
-        let e = places_end(list, at + 3, k);
-        if e == 0 {
+        let k = list[at + 2] as usize + 1;
+        let Some(e) = places_end(list, at + 3, k) else {
             return false;
-        }
+        };
         words += e - (at + 3) - k;
         at = e;
     }
@@ -96,10 +80,8 @@ pub fn operands_end(list: &[u32], at: usize, k: usize) -> usize
     ensures { result ≡ operands_end list.now k at }
 {
     let mut a = at;
-    let mut i = 0;
-    while i < k {
-        a += 1 + 2 * wide(list[a]);
-        i += 1;
+    for _ in 0..k {
+        a += 1 + 2 * list[a] as usize;
     }
     a
 }

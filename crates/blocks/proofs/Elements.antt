@@ -1,25 +1,20 @@
--- A place as items: the root, then an item for each element. What the item at j says of the elements from there on.
+-- A place as items: the root, then an item for each element; and what the codes of the elements say of the place.
 use mathlib.Core.Path.{◌≡◌, refl, sym, ap, ◌∙◌}
+use mathlib.Core.Bool.{Bool, false, cond, not, ◌||◌}
 use mathlib.Core.List.{List, [], ◌∷◌}
 use mathlib.Core.Option.{some}
-use Prim.Native.Nat.{ℕ, zero, suc, ◌+◌, ◌-◌, ◌≤◌, ◌<◌}
+use Prim.Native.Nat.{ℕ, suc, ◌-◌}
+use lib.Dec.{eqb}
+use lib.ListN.{length, get_or, drop, length-map}
+use Rattle.std.specs.List.{count_by, list_any, take_while}
 use native.Mathlib.Omega.{arith}
-use lib.ListN.{length, get_or, drop, length-map, drop_of_length-le}
-use lib.Seq.{drop-cons}
-use Rattle.model.specs.Place.{Elem, index, Place, Spot}
+use Rattle.std.proofs.lemmas.List.Sums.{take_while-cons, sum_by-cons}
+use Rattle.model.specs.Place.{deref, field, downcast, index, Place, Spot, steps, usable}
 use Rattle.model.specs.Record.{elem_entry}
 use Rattle.model.specs.Calls.{spot_of}
 use Rattle.records.specs.Here.{firsts}
 use Rattle.records.specs.Spots.{place_entries, spot_items}
-
--- an element's code
-abbrev pub code : Elem → ℕ
-code e = (elem_entry e).0
-
-code_at : (p : Place) (i : ℕ) → i < length p → get_or (firsts (place_entries p)) i 0 ≡ code (get_or p i index)
-code_at [] i l = absurd (omega arith)
-code_at (e ∷ p) zero l = refl
-code_at (e ∷ p) (suc i) l = code_at p i (omega arith)
+use Rattle.blocks.specs.Points.{steps_in}
 
 module _ (ops args : List ℕ) (q : Spot) (is : spot_of ops args ≡ some q) where
   -- one item more than elements
@@ -36,26 +31,58 @@ module _ (ops args : List ℕ) (q : Spot) (is : spot_of ops args ≡ some q) whe
   pub spot_root : get_or args 0 0 ≡ q.local
   spot_root = ap (λ (l : List ℕ). get_or l 0 0) (spot_items ops args q is).args_are
 
-  -- the element at j
-  pub element : ℕ → Elem
-  element j = get_or q.place (j - 1) index
+-- the elements' codes
+abbrev codes : Place → List ℕ
+codes p = firsts (place_entries p)
 
-  pub element_code : (j : ℕ) → 1 ≤ j → j < length ops → get_or ops j 0 ≡ code (element j)
-  unfolding element
-  element_code zero l m = absurd (omega arith)
-  element_code (suc i) l m =
-      let s : suc i - 1 ≡ i = omega arith in
-      ap (λ (l : List ℕ). get_or l (suc i) 0) (spot_items ops args q is).ops_are
-      ∙ code_at q.place i (omega (arith, spot_ops))
-      ∙ ap (λ (k : ℕ). code (get_or q.place k index)) (sym s)
+-- STEPS
 
-  -- it comes first among the elements from there on
-  pub element_first : (j : ℕ) → 1 ≤ j → j < length ops → drop (j - 1) q.place ≡ element j ∷ drop (j + 1 - 1) q.place
-  unfolding element
-  element_first j l m =
-      let s : suc (j - 1) ≡ j + 1 - 1 = omega arith in
-      drop-cons q.place (j - 1) index (omega (arith, spot_ops)) ∙ ap (λ (k : ℕ). get_or q.place (j - 1) index ∷ drop k q.place) s
+-- the codes before an index that are no downcast's
+abbrev counted : List ℕ → ℕ
+counted l = count_by (λ o. not (eqb o 3)) (take_while (λ o. not (eqb o 4)) l)
 
-  -- past the last item there is none
-  pub element_none : (j : ℕ) → length ops ≤ j → drop (j - 1) q.place ≡ []
-  element_none j l = drop_of_length-le q.place {i = j - 1} (omega (arith, spot_ops))
+counted_steps : (p : Place) → counted (codes p) ≡ steps p
+unfolding steps elem_entry
+counted_steps [] = refl
+counted_steps (deref ∷ p) = rw take_while-cons (omega (arith, sum_by-cons (λ o. cond (not (eqb o 3)) 1 0) 1 (take_while (λ o. not (eqb o 4)) (codes p)), counted_steps p))
+counted_steps (field i ∷ p) = rw take_while-cons (omega (arith, sum_by-cons (λ o. cond (not (eqb o 3)) 1 0) 2 (take_while (λ o. not (eqb o 4)) (codes p)), counted_steps p))
+counted_steps (downcast v ∷ p) = rw take_while-cons (omega (arith, sum_by-cons (λ o. cond (not (eqb o 3)) 1 0) 3 (take_while (λ o. not (eqb o 4)) (codes p)), counted_steps p))
+counted_steps (index ∷ p) = refl
+
+-- USABLE
+
+-- is a place with these elements left usable? cast: the element before them is a downcast
+abbrev usable_behind : Bool → Place → Bool
+usable_behind cast [] = not cast
+usable_behind cast (e ∷ p) = usable (e ∷ p)
+
+whole : (p : Place) → usable p ≡ usable_behind false p
+whole [] = refl
+whole (e ∷ p) = refl
+
+-- an index among the codes behind o, or no downcast's code at their end
+abbrev ends_well : ℕ → List ℕ → Bool
+ends_well o l = list_any (λ k. eqb k 4) l || not (eqb (get_or (o ∷ l) (length l) 0) 3)
+
+ends_usable : (o : ℕ) (p : Place) → ends_well o (codes p) ≡ usable_behind (eqb o 3) p
+unfolding elem_entry
+ends_usable o [] = refl
+ends_usable o (deref ∷ p) = ends_usable 1 p ∙ sym (whole p)
+ends_usable o (field i ∷ p) = ends_usable 2 p ∙ sym (whole p)
+ends_usable o (downcast v ∷ []) = refl
+ends_usable o (downcast v ∷ (e ∷ p)) = ends_usable 3 (e ∷ p)
+ends_usable o (index ∷ p) = refl
+
+module _ (ops args : List ℕ) (q : Spot) (is : spot_of ops args ≡ some q) where
+  -- behind the root
+  pub spot_steps : steps_in ops ≡ steps q.place
+  spot_steps = ap (λ (l : List ℕ). counted (drop 1 l)) (spot_items ops args q is).ops_are ∙ counted_steps q.place
+
+  pub spot_usable : list_any (λ k. eqb k 4) ops || not (eqb (get_or ops (length ops - 1) 0) 3) ≡ usable q.place
+  spot_usable =
+      ap (λ (l : List ℕ). list_any (λ k. eqb k 4) l || not (eqb (get_or l (length l - 1) 0) 3)) (spot_items ops args q is).ops_are
+      ∙ ap (λ (n : ℕ). list_any (λ k. eqb k 4) (codes q.place) || not (eqb (get_or (0 ∷ codes q.place) n 0) 3)) last
+      ∙ ends_usable 0 q.place ∙ sym (whole q.place)
+    where
+      last : suc (length (codes q.place)) - 1 ≡ length (codes q.place)
+      last = omega arith

@@ -1,17 +1,18 @@
 -- The places of a function record that passes refusal 2: the items of a place that is used are read as that place, and stand in the
 -- record as `op` and `arg` have them.
-use mathlib.Core.Path.{◌≡◌, refl, ap, ◌∙◌}
+use mathlib.Core.Path.{◌≡◌, refl}
 use mathlib.Core.Bool.{Bool, true, false, ◌||◌}
 use mathlib.Core.List.{List, ◌∷◌}
 use mathlib.Core.Option.{some}
 use Prim.Native.Nat.{ℕ, zero, suc, ◌+◌, ◌-◌, ◌≤◌, ◌<◌}
 use native.Mathlib.Nat.{add-suc}
+use native.Mathlib.Numerals.{add-one}
 use native.Mathlib.Omega.{arith}
 use native.Mathlib.Decide.{dec_lt}
 use borrow.Author.Tests.{le-leb, lt-ltb, ltb-true, eq-eqb, ne_eqb}
 use lib.Dec.{eqb}
-use lib.ListN.{length, get_or, drop, length-drop}
-use lib.Seq.{drop-cons, get_or-drop, get_or-take, length-take-le}
+use lib.ListN.{length, drop, length-drop}
+use lib.Seq.{drop-cons, length-take-le}
 use Rattle.model.specs.Function.{nlocals, nargs, nblocks, nitems, start, stop, op, arg, arg_ok, function_sizes}
 use Rattle.model.specs.Block.{root_before, elems, spot_before, uses_place}
 use Rattle.model.specs.Calls.{elems_of, spot_of}
@@ -46,19 +47,14 @@ block_stop F {b} l = stop_inside (formed_accepted F) b
 -- ROOTS
 
 module _ (fn : List ℕ) where
-  pub root_here : (i : ℕ) → 0 < i → op fn (i - 1) ≡ 0 → root_before fn i ≡ i - 1
+  -- the root behind item i
+  pub root_now : (i : ℕ) → op fn i ≡ 0 → i ≡ root_before fn (i + 1)
   unfolding root_before
-  root_here zero l e = absurd (omega arith)
-  root_here (suc i) l e =
-      let s : suc i - 1 ≡ i = omega arith in
-      rw s (cc (eq-eqb (op fn i) 0 (rw s at e)))
+  root_now i e = rw (add-one i) (cc (eq-eqb (op fn i) 0 e))
 
-  pub root_back : (i : ℕ) → 0 < i → (op fn (i - 1) ≡ 0 → ⊥) → root_before fn i ≡ root_before fn (i - 1)
+  pub root_kept : (i : ℕ) → (op fn i ≡ 0 → ⊥) → root_before fn i ≡ root_before fn (i + 1)
   unfolding root_before
-  root_back zero l d = absurd (omega arith)
-  root_back (suc i) l d =
-      let s : suc i - 1 ≡ i = omega arith in
-      rw s (cc (ne_eqb (op fn i) 0 (rw s at d)))
+  root_kept i d = rw (add-one i) (cc (ne_eqb (op fn i) 0 d))
 
   pub root_zero : root_before fn 0 ≡ 0
   unfolding root_before
@@ -80,22 +76,6 @@ module _ {fn : List ℕ} (L : Laid fn) (i j : ℕ) (l : i ≤ j) (m : j ≤ nite
   pub ops_long : length (ops_part fn i j) ≡ j - i
   unfolding ops_part
   ops_long = length-take-le (j - i) (drop (ops_start fn + i) fn) (rw length-drop (omega (arith, L.whole)))
-
-  pub args_long : length (args_part fn i j) ≡ j - i
-  unfolding args_part
-  args_long = length-take-le (j - i) (drop (ops_start fn + nitems fn + i) fn) (rw length-drop (omega (arith, L.whole)))
-
-  pub ops_at : (k : ℕ) → k < j - i → get_or (ops_part fn i j) k 0 ≡ op fn (i + k)
-  unfolding ops_part op
-  ops_at k h =
-      let s : ops_start fn + i + k ≡ ops_start fn + (i + k) = omega arith in
-      get_or-take (j - i) (drop (ops_start fn + i) fn) k 0 h ∙ get_or-drop (ops_start fn + i) fn k 0 ∙ ap (λ (x : ℕ). get_or fn x 0) s
-
-  pub args_at : (k : ℕ) → k < j - i → get_or (args_part fn i j) k 0 ≡ arg fn (i + k)
-  unfolding args_part arg
-  args_at k h =
-      let s : ops_start fn + nitems fn + i + k ≡ ops_start fn + nitems fn + (i + k) = omega arith in
-      get_or-take (j - i) (drop (ops_start fn + nitems fn + i) fn) k 0 h ∙ get_or-drop (ops_start fn + nitems fn + i) fn k 0 ∙ ap (λ (x : ℕ). get_or fn x 0) s
 
 -- one item more in front
 module _ {fn : List ℕ} (L : Laid fn) (i j : ℕ) (l : i < j) (m : j ≤ nitems fn) where

@@ -1,11 +1,14 @@
 -- Join points by number, and the read that a block's switch matches on.
-use Rattle.std.specs.Prelude.{◌≡◌, Bool, true, false, cond, List, [], ◌∷◌, ℕ, suc, ◌+◌, ◌-◌, ◌<◌, ◌≤◌, length, get_or, eqb}
+use Rattle.std.specs.Prelude.{◌≡◌, true, false, not, cond, List, [], ◌∷◌, ℕ, suc, ◌-◌, ◌<◌, length, drop, get_or, eqb}
+use Rattle.std.specs.List.{count_by, take_while}
 use Rattle.std.proofs.Math.Option.{Option, none, some}
 use Rattle.model.specs.Words.{count_below, collect_from}
-use Rattle.model.specs.Function.{start, stop, op, arg, nblocks, nitems}
+use Rattle.model.specs.Function.{start, stop, op, nblocks, nitems}
 use Rattle.model.specs.Block.{spot_before, root_before, uses_place, is_join_point, latest_note}
-use Rattle.blocks.specs.declared.matching.Item.{Item}
-use Rattle.blocks.specs.declared.matching.Item.TheVariants.{At, Nowhere}
+
+-- how many codes of elements stand before an index's and are no downcast's: `steps` of model, by the items of a place, the root first
+abbrev pub steps_in : List ℕ → ℕ
+steps_in ops = count_by (λ o. not (eqb o 3)) (take_while (λ o. not (eqb o 4)) (drop 1 ops))
 
 -- all are 0
 abbrev pub Zeros : List ℕ → Type 0
@@ -40,23 +43,6 @@ switch_item fn b = elim (collect_from (λ i. eqb (op fn i) 8) (λ i. i) (stop fn
   | s ∷ (l → m) ↦ some s
 ]
 
--- an option as the code has it
-abbrev pub item_of : Option ℕ → Item
-item_of none = Nowhere
-item_of (some i) = At i
-
 -- i is an item that uses a place
 abbrev pub UsedAt : List ℕ → ℕ → Type 0
 UsedAt fn i = (i < nitems fn) × (uses_place fn i ≡ true)
-
--- n items stand from a on, and from b on
-abbrev pub TwoRuns : List ℕ → ℕ → ℕ → ℕ → Type 0
-TwoRuns fn a b n = (a + n ≤ nitems fn) × (b + n ≤ nitems fn)
-
--- the n items from a on are those from b on
-abbrev pub SameItems : List ℕ → ℕ → ℕ → ℕ → Type 0
-SameItems fn a b n = (k : ℕ) → k < n → (op fn (a + k) ≡ op fn (b + k)) × (arg fn (a + k) ≡ arg fn (b + k))
-
--- r tells whether they are
-abbrev pub Tells_same : List ℕ → ℕ → ℕ → ℕ → Bool → Type 0
-Tells_same fn a b n r = (r ≡ true → SameItems fn a b n) × (SameItems fn a b n → r ≡ true)

@@ -6,7 +6,7 @@ ghost use Rattle.mir.specs.Sizes.{Formed};
 ghost use Rattle.blocks.specs.Points.{share_number, Zeros, OfEachBlock};
 
 use mir::function::{arg_of, nblocks, nitems, op_of};
-use type_record::record::wide;
+use mir::items::TARGET;
 
 // How many target items name each block.
 fn count_incoming(fun: &[u32], counts: &mut [u32])
@@ -15,28 +15,17 @@ fn count_incoming(fun: &[u32], counts: &mut [u32])
     requires zeros { Zeros counts.old }
     ensures { OfEachBlock fun.now (incoming fun.now) counts.old counts.new }
 {
-    let n = nitems(fun);
-    let mut i = 0;
-    while i < n {
-        if op_of(fun, i) == 10 {
-            let c = wide(arg_of(fun, i));
-            let k = counts[c];
-            counts[c] = k + 1;
+    for i in 0..nitems(fun) {
+        if op_of(fun, i) == TARGET {
+            counts[arg_of(fun, i) as usize] += 1;
         }
-        i += 1;
     }
 }
 
 fn is_join(n: u32, b: usize) -> bool
     ensures { result ≡ ltb 1 n || (eqb b 0 && ltb 0 n) }
 {
-    if 1 < n {
-        return true;
-    }
-    if b == 0 {
-        return 0 < n;
-    }
-    false
+    1 < n || (b == 0 && 0 < n)
 }
 
 // The number of each join point's share, from 1 on, in block order, and 0 for any other block; their count.
@@ -49,17 +38,14 @@ pub fn fill_join_points(fun: &[u32], points: &mut [u32]) -> usize
     ensures shares { OfEachBlock fun.now (share_number fun.now) points.old points.new }
 {
     count_incoming(fun, points);
-    let n = nblocks(fun);
     let mut k: u32 = 0;
-    let mut b = 0;
-    while b < n {
+    for b in 0..nblocks(fun) {
         if is_join(points[b], b) {
             k += 1;
             points[b] = k;
         } else {
             points[b] = 0;
         }
-        b += 1;
     }
-    wide(k)
+    k as usize
 }

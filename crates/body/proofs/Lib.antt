@@ -3,6 +3,8 @@
 pub mod Runs
 -- a block's stations and the entry's uses as runs of items
 pub mod Stations
+-- the code's results as answers
+pub mod Answered
 -- what a place used records, as items
 pub mod Told
 -- what the code leaves of a run
@@ -19,5 +21,3 @@ pub mod Trying
 pub mod Plans
 -- the block of a match
 pub mod Matches
--- a state and its copy
-pub mod Copied

@@ -2,7 +2,8 @@
 use mathlib.Core.Path.{◌≡◌, refl}
 use mathlib.Core.Logic.{◌≢◌}
 use mathlib.Core.List.{List}
-use mathlib.Core.Option.{Option, none, some}
+use mathlib.Core.Option as Math
+use mathlib.Core.Option.{none, some}
 use Prim.Native.Nat.{ℕ, suc, ◌-◌, ◌≤◌, ◌<◌}
 use native.Mathlib.Decide.{dec_lt}
 use native.Mathlib.Omega.{arith}
@@ -22,10 +23,8 @@ use Rattle.laws.specs.Refusals.{enum_kind}
 use Rattle.graph.proofs.Enders.{target_last}
 use Rattle.state.specs.declared.nodes.State.{State}
 use Rattle.state.proofs.Fields.{ready_typed}
-use Rattle.blocks.specs.Points.{item_of}
-use Rattle.blocks.specs.declared.matching.Item.TheVariants.{At, Nowhere}
 use Rattle.env.specs.Answers.{on_of}
-use Rattle.env.specs.declared.project.On.TheVariants.{Enum, Element, Refused as Other}
+use Rattle.env.specs.declared.project.On.TheVariants.{Enum, Element}
 use Rattle.blocks.proofs.Spots.{formed_accepted, block_stop}
 use Rattle.blocks.proofs.Points.{Matched, matched_holds}
 use Rattle.body.specs.declared.arms.Subject.{Subject}
@@ -35,34 +34,18 @@ use Rattle.body.specs.Tries.{Matching, Blank}
 use Rattle.body.proofs.Variants.{count_few}
 use Rattle.body.proofs.Plans.{Leads, leads_same, trying, trying_first}
 
--- THE CODE'S ANSWERS
+-- WHAT IT IS ON, by the code's answer
 
--- a block without a match
-pub item_none : (o : Option ℕ) → item_of o ≡ Nowhere → o ≡ none
-item_none none e = refl
-item_none (some i) e = cc
-
--- and with one
-pub item_some : (o : Option ℕ) {r : ℕ} → item_of o ≡ At r → o ≡ some r
-item_some none e = cc
-item_some (some i) e = cc
-
--- a match on neither an enum nor an element
-pub on_refused : (a : Answer (Option ℕ)) {n : ℕ} → on_of a ≡ Other n → a ≡ refused n
-on_refused (refused m) e = cc
-on_refused (done none) e = cc
-on_refused (done (some t)) e = cc
-
--- on an element
-pub on_element : (a : Answer (Option ℕ)) → on_of a ≡ Element → a ≡ done none
-on_element (refused m) e = cc
+-- an array's element
+pub on_element : (a : Answer (Math.Option ℕ)) → done Element ≡ a >>= (λ o. done (on_of o)) → a ≡ done none
+on_element (refused m) e = clash (cc)
 on_element (done none) e = refl
-on_element (done (some t)) e = cc
+on_element (done (some t)) e = clash (cc)
 
--- on an enum
-pub on_enum : (a : Answer (Option ℕ)) {t : ℕ} → on_of a ≡ Enum t → a ≡ done (some t)
-on_enum (refused m) e = cc
-on_enum (done none) e = cc
+-- an enum
+pub on_enum : (a : Answer (Math.Option ℕ)) {t : ℕ} → done (Enum t) ≡ a >>= (λ o. done (on_of o)) → a ≡ done (some t)
+on_enum (refused m) e = clash (cc)
+on_enum (done none) e = clash (cc)
 on_enum (done (some t)) e = cc
 
 -- THE MATCH

@@ -1,8 +1,8 @@
 -- What the code leaves of a run of items: by its outcome, and of two runs, one after the other.
-use mathlib.Core.Path.{◌≡◌, refl, sym, ap, ◌∙◌, subst}
-use mathlib.Core.Logic.{◌≢◌}
+use mathlib.Core.Path.{◌≡◌, refl, ap, ◌∙◌, subst}
 use mathlib.Core.List.{List, [], ◌++◌}
 use Prim.Native.Nat.{ℕ}
+use Rattle.std.specs.Prelude.{Result, Ok, Err}
 use lib.ListN.{length, length-append}
 use Rattle.model.specs.Answer.{Answer, refused, done, ◌>>=◌}
 use Rattle.model.specs.Tree.{Forest}
@@ -14,7 +14,10 @@ use Rattle.model.specs.Record.{Entry}
 use Rattle.base.specs.Tests.{split, clash}
 use Rattle.base.specs.Answer.{split_answer}
 use Rattle.records.specs.Here.{Holds}
+use Rattle.refusal.specs.Refusal.{number, answered}
+use Rattle.refusal.specs.declared.Refusal.{Refusal}
 use Rattle.state.specs.Value.{value}
+use Rattle.state.specs.declared.nodes.State.{State}
 use Rattle.statements.specs.Kept.{Alike, Counted}
 use Rattle.statements.specs.Marked.{marked}
 use Rattle.statements.specs.declared.Out.{Out}
@@ -22,7 +25,7 @@ use Rattle.statements.proofs.Puts.{alike_at, alike_then, counted_alike, puts_ali
 use Rattle.statements.proofs.Marks.{marked_append}
 use Rattle.state.specs.Given.{Stated}
 use Rattle.statements.specs.Points.{Says, Tells}
-use Rattle.body.specs.Uses.{Gone, Passes, After}
+use Rattle.body.specs.Uses.{Gone, Passes}
 use Rattle.body.proofs.Runs.{Run, behind}
 
 -- WHAT IS RECORDED
@@ -68,69 +71,66 @@ module _ {Γ fn : List ℕ} {out : List ℕ} {o : Out} where
   -- A RUN
 
   -- a run that is refused
-  pub refused_passes : {out' : List ℕ} {a : Answer Run} {r : After} (n : ℕ) → a ≡ refused n → n ≢ 0 → r.refusal ≡ n
-      → length out' ≡ length out → Passes Γ fn out o out' a r
-  refused_passes n e z d s = record { same = s; denied = λ k f. (cc, λ y. z (cc)); gone = λ w f. clash (cc) }
+  pub refused_passes : {out' : List ℕ} {a : Answer Run} {r : Result Out Refusal} {s : State} (n : ℕ) → a ≡ refused n → answered r ≡ refused n
+      → length out' ≡ length out → Passes Γ fn out o out' a r s
+  refused_passes n e d l = record { same = l; denied = λ k f. cc; gone = λ w f. clash (cc) }
 
   -- a run that is not
-  pub done_passes : {out' : List ℕ} {a : Answer Run} {r : After} {w : Run} → a ≡ done w
-      → Gone Γ fn out o out' w r → Passes Γ fn out o out' a r
-  done_passes {out'} {a} {r} {w} e G = record {
-    same = tells_same G.lines;
+  pub done_passes : {out' : List ℕ} {a : Answer Run} {q : Out} {s : State} {w : Run} → a ≡ done w
+      → Holds Γ (local_types fn) (value s) w.0 → Tells fn out o out' q w.1 → Passes Γ fn out o out' a (Ok q) s
+  done_passes {out'} {a} {q} {s} {w} e h T = record {
+    same = tells_same T;
     denied = λ k f. clash (cc);
-    gone = λ v f. subst (λ (x : Run). Gone Γ fn out o out' x r) {x = w} {y = v} (cc) G;
+    gone = λ v f. subst (λ (x : Run). Gone Γ fn out o out' x (Ok q) s) {x = w} {y = v} (cc) (record { told = q; fine = refl; state = h; lines = T });
   }
 
-  -- the code says that it is not
-  pub passes_done : {out' : List ℕ} {a : Answer Run} {r : After} → Passes Γ fn out o out' a r → r.refusal ≡ 0
-      → (w : Run) × (a ≡ done w) × Gone Γ fn out o out' w r
-  passes_done {a = a} P z = split_answer a
-      (λ n e. absurd ((P.denied n e).1 (sym (P.denied n e).0 ∙ z)))
-      (λ w e. (w, e, P.gone w e))
+  module _ {out' : List ℕ} {a : Answer Run} {q : Out} {s : State} (P : Passes Γ fn out o out' a (Ok q) s) where
+    -- the code says that it is not
+    pub passes_done : (w : Run) × (a ≡ done w) × Holds Γ (local_types fn) (value s) w.0 × Tells fn out o out' q w.1
+    passes_done = split_answer a
+        (λ n e. clash (cc (P.denied n e)))
+        (λ w e. let G = P.gone w e in let same : G.told ≡ q = cc G.fine in (w, e, G.state, rw same at G.lines))
+
+    -- a state is left
+    pub passes_stated : Stated Γ (local_types fn) s
+    passes_stated = let (w, e, h, T) = passes_done in record { state = w.0; holds = h }
+
+    -- and counts in range
+    pub passes_counted : Counted out o → Counted out' q
+    passes_counted C = let (w, e, h, T) = passes_done in tells_counted T C
 
   -- or that it is
-  pub passes_refused : {out' : List ℕ} {a : Answer Run} {r : After} → Passes Γ fn out o out' a r → (r.refusal ≡ 0 → ⊥)
-      → a ≡ refused r.refusal
-  passes_refused {a = a} P z = split_answer a
-      (λ n e. e ∙ ap refused (sym (P.denied n e).0))
-      (λ w e. absurd (z (P.gone w e).fine))
+  pub passes_refused : {out' : List ℕ} {a : Answer Run} {e : Refusal} {s : State} → Passes Γ fn out o out' a (Err e) s → a ≡ refused (number e)
+  passes_refused {a = a} P = split_answer a
+      (λ n d. cc (P.denied n d))
+      (λ w d. clash (cc (P.gone w d).fine))
 
   -- the same from another record that is like it
-  pub passes_alike : {out' : List ℕ} {a : Answer Run} {r : After} {n : Out} → Passes Γ fn out o out' a r → Alike n o → Passes Γ fn out n out' a r
+  pub passes_alike : {out' : List ℕ} {a : Answer Run} {r : Result Out Refusal} {s : State} {n : Out} → Passes Γ fn out o out' a r s → Alike n o → Passes Γ fn out n out' a r s
   passes_alike P A = record {
     same = P.same;
     denied = P.denied;
-    gone = λ w e. let G = P.gone w e in record { fine = G.fine; state = G.state; lines = tells_alike G.lines A };
+    gone = λ w e. let G = P.gone w e in record { told = G.told; fine = G.fine; state = G.state; lines = tells_alike G.lines A };
   }
 
   -- TWO RUNS
 
   -- a first run, then another
-  pub passes_then : {out₁ out₂ : List ℕ} {a : Answer Run} {f : Forest → Answer Run} {r₁ r₂ : After}
-      → Passes Γ fn out o out₁ a r₁ → r₁.refusal ≡ 0
-      → ((D : Forest) → Holds Γ (local_types fn) (value r₁.state) D → Passes Γ fn out₁ r₁.out out₂ (f D) r₂)
-      → Passes Γ fn out o out₂ (a >>= λ x. behind x.1 (f x.0)) r₂
-  passes_then {a = a} {f} P z h =
-      let (w, e, G) = passes_done P z in
-      let Q = h w.0 G.state in
+  pub passes_then : {out₁ out₂ : List ℕ} {a : Answer Run} {f : Forest → Answer Run} {q : Out} {r : Result Out Refusal} {s₁ s₂ : State}
+      → Passes Γ fn out o out₁ a (Ok q) s₁
+      → ((D : Forest) → Holds Γ (local_types fn) (value s₁) D → Passes Γ fn out₁ q out₂ (f D) r s₂)
+      → Passes Γ fn out o out₂ (a >>= λ x. behind x.1 (f x.0)) r s₂
+  passes_then {a = a} {f} {q} {r} {s₂ = s₂} P h =
+      let (w, e, k, T) = passes_done P in
+      let Q = h w.0 k in
       let then : (a >>= λ x. behind x.1 (f x.0)) ≡ behind w.1 (f w.0) = ap (λ (b : Answer Run). b >>= λ x. behind x.1 (f x.0)) e in
       split_answer (f w.0)
-      (λ n d. let (k, y) = Q.denied n d in refused_passes n (then ∙ ap (behind w.1) d) y k (Q.same ∙ P.same))
+      (λ n d. refused_passes n (then ∙ ap (behind w.1) d) (Q.denied n d) (Q.same ∙ P.same))
       (λ v d.
       let H = Q.gone v d in
-      done_passes {w = (v.0, w.1 ++ v.1)} (then ∙ ap (behind w.1) d) (record { fine = H.fine; state = H.state; lines = tells_then G.lines H.lines }))
+      rw H.fine (done_passes {w = (v.0, w.1 ++ v.1)} (then ∙ ap (behind w.1) d) H.state (tells_then T H.lines)))
 
   -- a first run that is refused is all, whatever state is given back
-  pub passes_stop : {out₁ : List ℕ} {a : Answer Run} {r r' : After} (f : Run → Answer Run)
-      → Passes Γ fn out o out₁ a r → (r.refusal ≡ 0 → ⊥) → r'.refusal ≡ r.refusal → Passes Γ fn out o out₁ (a >>= f) r'
-  passes_stop {r = r} f P z d = refused_passes r.refusal (ap (λ (b : Answer Run). b >>= f) (passes_refused P z)) z d P.same
-
-  -- WHAT IS LEFT
-
-  -- a state
-  pub passes_stated : {out' : List ℕ} {a : Answer Run} {r : After} → Passes Γ fn out o out' a r → r.refusal ≡ 0 → Stated Γ (local_types fn) r.state
-  passes_stated P z = let (w, e, G) = passes_done P z in record { state = w.0; holds = G.state }
-
-  -- and counts in range
-  pub passes_counted : {out' : List ℕ} {a : Answer Run} {r : After} → Counted out o → Passes Γ fn out o out' a r → r.refusal ≡ 0 → Counted out' r.out
-  passes_counted C P z = let (w, e, G) = passes_done P z in tells_counted G.lines C
+  pub passes_stop : {out₁ : List ℕ} {a : Answer Run} {e : Refusal} {s s' : State} (f : Run → Answer Run)
+      → Passes Γ fn out o out₁ a (Err e) s → Passes Γ fn out o out₁ (a >>= f) (Err e) s'
+  passes_stop {e = e} f P = refused_passes (number e) (ap (λ (b : Answer Run). b >>= f) (passes_refused P)) refl P.same

@@ -8,19 +8,18 @@ use native.Mathlib.Omega.{arith}
 use lib.ListN.{length}
 use Rattle.model.specs.Tree.{Forest}
 use Rattle.model.specs.State.{locals_ok}
-use Rattle.model.specs.Place.{used_ok}
+use Rattle.model.specs.Place.{Spot, used_ok}
 use Rattle.model.specs.Function.{nlocals, nitems, local_types}
 use Rattle.model.specs.Block.{root_before, spot_before, uses_place}
 use Rattle.model.specs.Calls.{spot_of}
 use Rattle.base.specs.Function.{function_facts, length_local_types, locals_pass}
-use Rattle.records.specs.Here.{Holds}
 use Rattle.graph.specs.Used.{place_used}
 use Rattle.mir.specs.Parts.{ops_part, args_part}
-use Rattle.state.specs.Value.{value}
 use Rattle.state.specs.declared.nodes.State.{State}
 use Rattle.blocks.proofs.Spots.{used_in, used_read}
-use Rattle.env.specs.Given.{Given}
-use Rattle.state.specs.Given.{Accepted, Stated}
+use Rattle.env.specs.Given.{Asked}
+use Rattle.env.specs.There.{Wherever}
+use Rattle.state.specs.Given.{Accepted, Stated, InEach}
 
 module _ {Γ os fn : List ℕ} (A : Accepted Γ os fn) {read : ℕ} (l : read < nitems fn) (u : uses_place fn read ≡ true) {r : ℕ} (e : r ≡ root_before fn read) where
   -- its items
@@ -32,21 +31,26 @@ module _ {Γ os fn : List ℕ} (A : Accepted Γ os fn) {read : ℕ} (l : read < 
     pub place_spot : spot_of ops args ≡ some (spot_before fn read)
     place_spot = rw (eo, ea, e) (used_read A.formed l u)
 
-    pub place_locals : locals_ok Γ locals ≡ true
+    place_locals : locals_ok Γ locals ≡ true
     place_locals = rw el (locals_pass Γ fn A.function)
 
-    -- a state of the function's locals
-    pub place_holds : {s : State} {E : Forest} → Holds Γ (local_types fn) (value s) E → Holds Γ locals (value s) E
-    place_holds h = rw el h
+    -- with a state of the function's locals they are what a call within a run asks
+    pub place_asked : {s : State} → Stated Γ (local_types fn) s → Asked Γ os locals s ops args (used_ok (length locals))
+    place_asked S =
+        let n : length locals ≡ nlocals fn = rw el (length_local_types (function_facts Γ fn A.function)) in (
+          A.ready,
+          (
+            place_locals,
+            record {
+              state = S.state;
+              holds = rw el S.holds;
+              spot = spot_before fn read;
+              is = place_spot;
+              passes = rw n (place_used (function_facts Γ fn A.function) A.places l u);
+            },
+          ),
+        )
 
-    -- which passes
-    pub place_given : {s : State} → Stated Γ (local_types fn) s → Given Γ locals s ops args (used_ok (length locals))
-    place_given S =
-        let n : length locals ≡ nlocals fn = rw el (length_local_types (function_facts Γ fn A.function)) in
-        record {
-          state = S.state;
-          holds = rw el S.holds;
-          spot = spot_before fn read;
-          is = place_spot;
-          passes = rw n (place_used (function_facts Γ fn A.function) A.places l u);
-        }
+    -- what such a call gives wherever it is, it gives at that place
+    pub place_there : {s : State} {X : Forest → Spot → Type 0} → Wherever Γ locals s ops args X → InEach Γ fn s (λ E. X E (spot_before fn read))
+    place_there H E h = H E (spot_before fn read) (rw el h) place_spot

@@ -1,10 +1,11 @@
 -- A block's match, target by target: what model's exits come to, from what is left to try at item i.
-use mathlib.Core.Path.{◌≡◌, refl, ap, ◌∙◌}
+use mathlib.Core.Path.{◌≡◌, refl, ap, ◌∙◌, subst}
 use mathlib.Core.Logic.{◌≢◌}
 use mathlib.Core.Bool.{Bool, true, false}
 use mathlib.Core.List.{List, [], ◌∷◌}
 use mathlib.Core.Option.{none, some, map}
 use Prim.Native.Nat.{ℕ, suc, ◌+◌, ◌-◌, ◌≤◌, ◌<◌}
+use Rattle.std.specs.Prelude.{Option, Some, None, Result, Ok, Err}
 use native.Mathlib.Numerals.{add-one}
 use native.Mathlib.Omega.{arith}
 use borrow.Author.Tests.{eq-eqb, ne_eqb, lt-ltb}
@@ -23,14 +24,16 @@ use Rattle.base.specs.Each.{each_none, each_more}
 use Rattle.base.specs.Answer.{split_answer}
 use Rattle.base.specs.Collected.{collect_zero, collect_pass, collect_fail}
 use Rattle.graph.specs.Elements.{unopened_each}
+use Rattle.refusal.specs.Refusal.{number}
+use Rattle.refusal.specs.declared.Refusal.{Refusal}
 use Rattle.blocks.specs.Points.{matched_read}
 use Rattle.blocks.proofs.Points.{matched_place}
 use Rattle.body.specs.declared.arms.Subject.{Subject}
 use Rattle.body.specs.declared.arms.Rest.{Rest}
-use Rattle.body.specs.declared.arms.Plan.{Plan}
-use Rattle.body.specs.declared.arms.Plan.TheVariants.{Plain, Match, Refused}
-use Rattle.body.specs.Arms.{rest, opens, Sought, Chosen, Planned}
-use Rattle.body.specs.Tries.{free, arm, Taken, last_open, Ended}
+use Rattle.body.specs.declared.arms.Match.{Match}
+use Rattle.body.specs.Arms.{rest, opens, Sought, Sound, Chosen, Planned}
+use Rattle.body.specs.Tries.{with_rest, match_on, free, arm, Taken, last_open, Ended}
+use Rattle.body.proofs.Answered.{answered_refused}
 use Rattle.body.proofs.Variants.{free_all}
 
 -- THE TARGETS from item i on, before t
@@ -69,8 +72,8 @@ module _ (fn : List ℕ) where
 -- a is refused as b is, and has exits that leave as a match says if b has
 pub record Leads (Γ fn : List ℕ) (m : Subject) (E : Forest) (a b : Answer (List (Exit Forest))) : Type 0 where
   pub refuses : (n : ℕ) → b ≡ refused n → a ≡ refused n
-  pub leads : (w : Rest) (ys : List (Exit Forest)) → b ≡ done ys → Chosen Γ fn (Match m w) E ys
-      → (xs : List (Exit Forest)) × (a ≡ done xs) × Chosen Γ fn (Match m w) E xs
+  pub leads : (w : Rest) (ys : List (Exit Forest)) → b ≡ done ys → Chosen Γ fn (Some (with_rest m w)) E ys
+      → (xs : List (Exit Forest)) × (a ≡ done xs) × Chosen Γ fn (Some (with_rest m w)) E xs
 
 module _ {Γ fn : List ℕ} {m : Subject} {E : Forest} where
   -- what is the same
@@ -175,7 +178,7 @@ module _ (Γ fn : List ℕ) (m : Subject) (E : Forest) where
 
         -- and leaves as a match says
         pub last_chosen : (w : Rest) (D : Forest) → rest w ≡ only (free Γ m.typ taken) → last_open Γ fn m taken E ≡ done D
-            → Chosen Γ fn (Match m w) E (exit i D ∷ [])
+            → Chosen Γ fn (Some (with_rest m w)) E (exit i D ∷ [])
         unfolding opens
         last_chosen w D r d = each_more {a = exit i D} (cc unarmed) each_none
 
@@ -188,56 +191,64 @@ module _ (Γ fn : List ℕ) (m : Subject) (E : Forest) where
 
 module _ {Γ fn : List ℕ} {m : Subject} {b : ℕ} {E : Forest} (k : matched_read fn b ≡ some m.read) where
   -- what is left is refused
-  pub planned_refused : {a : Answer (List (Exit Forest))} {n : ℕ} → Leads Γ fn m E (exits_of Γ fn (matched fn b) (targets fn b) E) a → a ≡ refused n → Planned Γ fn b E (Refused n)
-  planned_refused {n} L e =
-      let z = L.refuses n e in
+  pub planned_refused : {a : Answer (List (Exit Forest))} {f : Refusal} → Leads Γ fn m E (exits_of Γ fn (matched fn b) (targets fn b) E) a → a ≡ refused (number f) → Planned Γ fn b E (Err f)
+  planned_refused {f} L e =
+      let z = L.refuses (number f) e in
       let w = has_match fn b k in
-      record { denied = λ j d. cc; refuses = λ j d. cc; plain = λ q. clash (cc); sound = tt; chosen = λ xs d. clash (cc) }
+      record { denied = λ j d. cc; refuses = λ j d. cc; plain = λ q. clash (cc); sound = λ p d. clash (cc); chosen = λ p xs d. clash (cc) }
 
   -- what is left leaves as the match says
   pub planned_match : {a : Answer (List (Exit Forest))} {v : Rest} {ys : List (Exit Forest)} → Leads Γ fn m E (exits_of Γ fn (matched fn b) (targets fn b) E) a
-      → Sought Γ fn m → a ≡ done ys → Chosen Γ fn (Match m v) E ys → Planned Γ fn b E (Match m v)
+      → Sought Γ fn m → a ≡ done ys → Chosen Γ fn (Some (with_rest m v)) E ys → Planned Γ fn b E (Ok (Some (with_rest m v)))
   planned_match {v} {ys} L S e c =
       let (xs, z, h) = L.leads v ys e c in
       let w = has_match fn b k in
-      record { denied = λ n d. clash (cc); refuses = λ n d. clash (cc); plain = λ q. clash (cc); sound = S; chosen = λ ws d. let y : xs ≡ ws = cc in rw y at h }
+      record {
+        denied = λ n d. clash (cc);
+        refuses = λ n d. clash (cc);
+        plain = λ q. clash (cc);
+        sound = λ p d. let y : Some (with_rest m v) ≡ p = cc in subst (Sound Γ fn) y S;
+        chosen = λ p ws d c. let y : Some (with_rest m v) ≡ p = cc in let u : xs ≡ ws = cc in subst (λ (q : Option Match). Chosen Γ fn q E ws) y (rw u at h);
+      }
 
   -- the otherwise target is tried
-  pub planned_ended : {e i : ℕ} {taken : List ℕ} {p : Plan} → Leads Γ fn m E (exits_of Γ fn (matched fn b) (targets fn b) E) (trying Γ fn m E e i taken)
-      → Sought Γ fn m → i < e → op fn i ≡ 10 → op fn (i - 1) ≢ 9 → suc i ≡ e → Ended Γ fn m E taken p → Planned Γ fn b E p
-  planned_ended {e} {i} {taken} {p} L S l t a s X = split_answer (last_open Γ fn m taken E)
-      (λ n d. rw (X.denied n d) (planned_refused L (trying_shut Γ fn m E e i taken l t a s n d)))
+  pub planned_ended : {e i : ℕ} {taken : List ℕ} {r : Result Rest Refusal} → Leads Γ fn m E (exits_of Γ fn (matched fn b) (targets fn b) E) (trying Γ fn m E e i taken)
+      → Sought Γ fn m → i < e → op fn i ≡ 10 → op fn (i - 1) ≢ 9 → suc i ≡ e → Ended Γ fn m E taken r → Planned Γ fn b E (match_on m r)
+  planned_ended {e} {i} {taken} {r} L S l t a s X = split_answer (last_open Γ fn m taken E)
+      (λ n d.
+      let (f, z, y) = answered_refused r (X.denied n d) in
+      rw z (planned_refused L (rw y (trying_shut Γ fn m E e i taken l t a s n d))))
       (λ D d.
-      let (w, z, r) = X.fine D d in
-      rw z (planned_match L S (trying_last Γ fn m E e i taken l t a s D d) (last_chosen Γ fn m E e i taken l t a s w D r d)))
+      let (w, z, y) = X.fine D d in
+      rw z (planned_match L S (trying_last Γ fn m E e i taken l t a s D d) (last_chosen Γ fn m E e i taken l t a s w D y d)))
 
 -- where each target leaves with the state as it is the plan is plain
-planned_unopened : (Γ fn : List ℕ) (b : ℕ) (E : Forest) → exits_of Γ fn (matched fn b) (targets fn b) E ≡ done (unopened (targets fn b) E) → Planned Γ fn b E Plain
+planned_unopened : (Γ fn : List ℕ) (b : ℕ) (E : Forest) → exits_of Γ fn (matched fn b) (targets fn b) E ≡ done (unopened (targets fn b) E) → Planned Γ fn b E (Ok None)
 planned_unopened Γ fn b E e =
     let h = unopened_each (λ x. ◌≡◌ {A = Answer Forest} (done E) (done x.state)) E (λ t. refl) (targets fn b) in
     record {
       denied = λ n d. clash (cc);
       refuses = λ n d. clash (cc);
       plain = λ d. refl;
-      sound = tt;
-      chosen = λ xs d. let z : unopened (targets fn b) E ≡ xs = cc in rw z at h;
+      sound = λ p d. let y : None ≡ p = cc in subst (Sound Γ fn) y tt;
+      chosen = λ p xs d c. let y : None ≡ p = cc in let z : unopened (targets fn b) E ≡ xs = cc in subst (λ (q : Option Match). Chosen Γ fn q E xs) y (rw z at h);
     }
 
 -- so it is without a match
-pub planned_plain : (Γ fn : List ℕ) (b : ℕ) (E : Forest) → matched_read fn b ≡ none → Planned Γ fn b E Plain
+pub planned_plain : (Γ fn : List ℕ) (b : ℕ) (E : Forest) → matched_read fn b ≡ none → Planned Γ fn b E (Ok None)
 unfolding exits_of
 planned_plain Γ fn b E m =
     let q : matched fn b ≡ none = matched_place fn b ∙ ap (map (spot_before fn)) m in
     planned_unopened Γ fn b E (rw q refl)
 
 -- and by a match on an array's element
-pub planned_element : (Γ fn : List ℕ) (b read : ℕ) (E : Forest) → matched_read fn b ≡ some read → subject_at Γ (spot_before fn read) E ≡ done none → Planned Γ fn b E Plain
+pub planned_element : (Γ fn : List ℕ) (b read : ℕ) (E : Forest) → matched_read fn b ≡ some read → subject_at Γ (spot_before fn read) E ≡ done none → Planned Γ fn b E (Ok None)
 unfolding exits_of match_exits
 planned_element Γ fn b read E m e = planned_unopened Γ fn b E (rw (has_match fn b m, e) refl)
 
 -- a match on neither
-pub planned_walk : (Γ fn : List ℕ) (b read : ℕ) (E : Forest) {n : ℕ} → matched_read fn b ≡ some read → subject_at Γ (spot_before fn read) E ≡ refused n → Planned Γ fn b E (Refused n)
+pub planned_walk : (Γ fn : List ℕ) (b read : ℕ) (E : Forest) {f : Refusal} → matched_read fn b ≡ some read → subject_at Γ (spot_before fn read) E ≡ refused (number f) → Planned Γ fn b E (Err f)
 unfolding exits_of
-planned_walk Γ fn b read E {n} m e =
+planned_walk Γ fn b read E {f} m e =
     let w = has_match fn b m in
-    record { denied = λ k d. cc; refuses = λ k d. cc; plain = λ q. clash (cc); sound = tt; chosen = λ xs d. clash (cc) }
+    record { denied = λ k d. cc; refuses = λ k d. cc; plain = λ q. clash (cc); sound = λ p d. clash (cc); chosen = λ p xs d. clash (cc) }

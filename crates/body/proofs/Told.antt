@@ -9,7 +9,7 @@ use native.Mathlib.Numerals.{add-one}
 use native.Mathlib.Omega.{arith}
 use lib.ListN.{length, take, length-map}
 use lib.Seq.{take_all}
-use Rattle.model.specs.Answer.{refused, done}
+use Rattle.model.specs.Answer.{done, ◌>>=◌}
 use Rattle.model.specs.State.{pairs}
 use Rattle.model.specs.Tree.{Forest, unfolded}
 use Rattle.model.specs.Place.{Spot, Fold, Unfold, At, base}
@@ -17,9 +17,9 @@ use Rattle.model.specs.Walk.{projection, changed, reached, passed, pick}
 use Rattle.model.specs.Frame.{mark}
 use Rattle.model.specs.Record.{Entry, elem_entry, verb_entry, point_entry}
 use Rattle.model.specs.Told.{of_use}
-use Rattle.model.specs.Calls.{Recorded, nothing, fold, unfold_at, recorded_verb, recorded_as, spot_of}
+use Rattle.model.specs.Calls.{recorded_verb, recorded_as, spot_of}
 use Rattle.base.specs.Tests.{clash}
-use Rattle.base.specs.Answer.{good_at, split_answer}
+use Rattle.base.specs.Answer.{good_at, then_done}
 use Rattle.laws.specs.Places.{base_first, base_short}
 use Rattle.laws.specs.Recorded.{numbered, projection_recording}
 use Rattle.records.specs.Spots.{spot_entries, place_entries, spot_items}
@@ -27,8 +27,9 @@ use Rattle.records.specs.Pairs.{pairs_halves, take_pairs, take_map}
 use Rattle.statements.specs.Marked.{mark_of, marked_line, marked}
 use Rattle.statements.proofs.Marks.{mark_small}
 use Rattle.blocks.proofs.Elements.{spot_ops, spot_args}
-use Rattle.env.specs.Answers.{recorded, projected}
-use Rattle.env.specs.declared.project.Projected.TheVariants.{Nothing, Fold as Folds, Unfold as Unfolds, Refused}
+use Rattle.env.specs.Answers.{recorded, use_of}
+use Rattle.env.specs.declared.project.Projected.TheVariants.{Nothing, Fold as Folds, Unfold as Unfolds}
+use Rattle.env.specs.declared.project.Use.{Use}
 
 -- THE ITEMS
 
@@ -83,29 +84,7 @@ by_unfold q m true u n e = (refl, cc)
 by_unfold q m false true n e = clash (cc)
 by_unfold q m false false n e = clash (cc)
 
--- no value is a refusal
-recorded_fine : {P : Type 0} (x : Recorded) (n : ℕ) → recorded x ≡ Refused n → P
-recorded_fine nothing n e = clash (cc)
-recorded_fine fold n e = clash (cc)
-recorded_fine (unfold_at m) n e = clash (cc)
-
 module _ (Γ : List ℕ) (q : Spot) (E : Forest) where
-  -- the answer is a refusal
-  pub answer_refused : {n : ℕ} → projected (projection Γ q E) ≡ Refused n → projection Γ q E ≡ refused n
-  answer_refused {n} e = split_answer (projection Γ q E)
-      (λ m d. d ∙ ap refused (cc))
-      (λ w d. recorded_fine (recorded_as w.1) n (cc))
-
-  -- the answer is a value, and its statements are P
-  abbrev pub Answers : (List At → Type 0) → Type 0
-  Answers P = (w : Forest × List At) × (projection Γ q E ≡ done w) × P w.1
-
-  -- or a value
-  answer_value : (x : Recorded) → projected (projection Γ q E) ≡ recorded x → Answers (λ as'. recorded (recorded_as as') ≡ recorded x)
-  answer_value x e = split_answer (projection Γ q E)
-      (λ m d. recorded_fine x m (cc))
-      (λ w d. (w, d, cc))
-
   -- the walk's number and its two flags
   abbrev pub number : ℕ
   number = passed Γ q.place (pick q.local E)
@@ -116,32 +95,40 @@ module _ (Γ : List ℕ) (q : Spot) (E : Forest) where
   abbrev ended : Bool
   ended = unfolded (reached Γ q.place (pick q.local E))
 
-  -- what it records
-  value_recorded : {w : Forest × List At} → projection Γ q E ≡ done w → w.1 ≡ recorded_by q number opened ended
-  value_recorded d = good_at (projection_recording Γ q E) d
+  -- the place is used, and its statements are P
+  abbrev pub Answers : (List At → Type 0) → Type 0
+  Answers P = (w : Forest × List At) × (projection Γ q E ≡ done w) × P w.1
 
-  -- nothing
-  pub answer_nothing : projected (projection Γ q E) ≡ Nothing → Answers (λ as'. as' ≡ [])
-  answer_nothing e =
-      let (w, d, r) = answer_value nothing e in
-      let is = value_recorded d in
-      (w, d, is ∙ by_nothing q number opened ended (ap (λ (l : List At). recorded (recorded_as l)) (sym is) ∙ r))
+  module _ {u : Use} (e : done u ≡ projection Γ q E >>= λ w. done (use_of number (recorded_as w.1))) where
+    -- u says which they are
+    answer_value : Answers (λ as'. use_of number (recorded_as as') ≡ u)
+    answer_value = let (w, d, k) = then_done (projection Γ q E) (sym e) in (w, d, cc)
 
-  -- a fold
-  pub answer_fold : projected (projection Γ q E) ≡ Folds → Answers (λ as'. as' ≡ of_use q Fold q.place 0 ∷ [])
-  answer_fold e =
-      let (w, d, r) = answer_value fold e in
-      let is = value_recorded d in
-      (w, d, is ∙ by_fold q number opened ended (ap (λ (l : List At). recorded (recorded_as l)) (sym is) ∙ r))
+    -- its number is the walk's
+    pub answer_told : u.passed ≡ number
+    answer_told = let (w, d, k) = answer_value in sym (ap (λ (x : Use). x.passed) k)
 
-  -- an unfold
-  pub answer_unfold : {n : ℕ} → projected (projection Γ q E) ≡ Unfolds n
-      → Answers (λ as'. (as' ≡ of_use q Unfold (base q.place) number ∷ []) × (n ≡ length (base q.place)))
-  answer_unfold {n} e =
-      let (w, d, r) = answer_value (unfold_at n) e in
-      let is = value_recorded d in
-      let (k, m) = by_unfold q number opened ended n (ap (λ (l : List At). recorded (recorded_as l)) (sym is) ∙ r) in
-      (w, d, (is ∙ k, m))
+    -- what it records, by the number and the flags
+    answer_recorded : Answers (λ as'. (as' ≡ recorded_by q number opened ended) × (recorded (recorded_as (recorded_by q number opened ended)) ≡ u.recorded))
+    answer_recorded =
+        let (w, d, k) = answer_value in
+        let is = good_at (projection_recording Γ q E) d in
+        (w, d, (is, ap (λ (l : List At). recorded (recorded_as l)) (sym is) ∙ ap (λ (x : Use). x.recorded) k))
+
+    -- nothing
+    pub answer_nothing : u.recorded ≡ Nothing → Answers (λ as'. as' ≡ [])
+    answer_nothing k = let (w, d, (is, r)) = answer_recorded in (w, d, is ∙ by_nothing q number opened ended (r ∙ k))
+
+    -- a fold
+    pub answer_fold : u.recorded ≡ Folds → Answers (λ as'. as' ≡ of_use q Fold q.place 0 ∷ [])
+    answer_fold k = let (w, d, (is, r)) = answer_recorded in (w, d, is ∙ by_fold q number opened ended (r ∙ k))
+
+    -- an unfold
+    pub answer_unfold : {n : ℕ} → u.recorded ≡ Unfolds n → Answers (λ as'. (as' ≡ of_use q Unfold (base q.place) number ∷ []) × (n ≡ length (base q.place)))
+    answer_unfold {n} k =
+        let (w, d, (is, r)) = answer_recorded in
+        let (l, m) = by_unfold q number opened ended n (r ∙ k) in
+        (w, d, (is ∙ l, m))
 
 -- THE ENTRIES
 

@@ -1,5 +1,5 @@
 -- The places used by a run of items, by model's projection, and what the code leaves of it.
-use Rattle.std.specs.Prelude.{◌≡◌, ◌≢◌, Bool, true, false, List, [], ◌++◌, ℕ, zero, suc, ◌-◌, ◌≤◌, ◌<◌, length}
+use Rattle.std.specs.Prelude.{◌≡◌, Bool, true, false, List, [], ◌++◌, ℕ, zero, suc, ◌-◌, ◌≤◌, ◌<◌, length, Result, Ok}
 use Rattle.model.specs.Answer.{Answer, refused, done, ◌>>=◌}
 use Rattle.model.specs.Tree.{Forest}
 use Rattle.model.specs.Place.{At}
@@ -8,12 +8,13 @@ use Rattle.model.specs.Function.{nitems, local_types}
 use Rattle.model.specs.Block.{spot_before, uses_place}
 use Rattle.model.specs.Frame.{Line, mark}
 use Rattle.records.specs.Here.{Holds}
-use Rattle.state.specs.Value.{value, state_in}
+use Rattle.refusal.specs.Refusal.{answered}
+use Rattle.refusal.specs.declared.Refusal.{Refusal}
+use Rattle.state.specs.Value.{value}
 use Rattle.state.specs.declared.nodes.State.{State}
 use Rattle.statements.specs.Points.{point, Tells}
 use Rattle.statements.specs.declared.Out.{Out}
 use Rattle.body.specs.declared.items.Items.{Items}
-use Rattle.body.specs.declared.items.Passed.{Passed}
 use Rattle.state.specs.Given.{InEach}
 
 -- THE ITEMS
@@ -42,28 +43,19 @@ module _ (Γ fn : List ℕ) where
 
 -- WHAT IS LEFT
 
--- what a run of items leaves: the state, what is recorded, and a refusal or 0
-pub record After : Type 0 where
-  pub state : State
-  pub out : Out
-  pub refusal : ℕ
+-- the state and the lines of a run of items that is not refused: s, and what r has recorded
+pub record Gone (Γ fn : List ℕ) (out : List ℕ) (o : Out) (out' : List ℕ) (w : Forest × List (Line At)) (r : Result Out Refusal) (s : State) : Type 0 where
+  pub told : Out
+  pub fine : r ≡ Ok told
+  pub state : Holds Γ (local_types fn) (value s) w.0
+  pub lines : Tells fn out o out' told w.1
 
--- as it stands in the lent arrays
-abbrev pub after_in : List ℕ → List ℕ → Passed → After
-after_in fs ws r = record { state = state_in fs ws r.nodes; out = r.out; refusal = r.refusal }
-
--- the state and the lines of a run of items that is not refused
-pub record Gone (Γ fn : List ℕ) (out : List ℕ) (o : Out) (out' : List ℕ) (w : Forest × List (Line At)) (r : After) : Type 0 where
-  pub fine : r.refusal ≡ 0
-  pub state : Holds Γ (local_types fn) (value r.state) w.0
-  pub lines : Tells fn out o out' r.out w.1
-
--- the code's r is model's a
-pub record Passes (Γ fn : List ℕ) (out : List ℕ) (o : Out) (out' : List ℕ) (a : Answer (Forest × List (Line At))) (r : After) : Type 0 where
+-- the code's r and s are model's a
+pub record Passes (Γ fn : List ℕ) (out : List ℕ) (o : Out) (out' : List ℕ) (a : Answer (Forest × List (Line At))) (r : Result Out Refusal) (s : State) : Type 0 where
   pub same : length out' ≡ length out
-  pub denied : (n : ℕ) → a ≡ refused n → (r.refusal ≡ n) × (n ≢ 0)
-  pub gone : (w : Forest × List (Line At)) → a ≡ done w → Gone Γ fn out o out' w r
+  pub denied : (n : ℕ) → a ≡ refused n → answered r ≡ refused n
+  pub gone : (w : Forest × List (Line At)) → a ≡ done w → Gone Γ fn out o out' w r s
 
--- from each state of s on, r is what model's run f comes to
-abbrev pub Runs : List ℕ → List ℕ → (Forest → Answer (Forest × List (Line At))) → State → List ℕ → Out → List ℕ → After → Type 0
-Runs Γ fn f s out o out' r = InEach Γ fn s (λ E. Passes Γ fn out o out' (f E) r)
+-- from each state of s on, r and s' are what model's run f comes to
+abbrev pub Runs : List ℕ → List ℕ → (Forest → Answer (Forest × List (Line At))) → State → List ℕ → Out → List ℕ → Result Out Refusal → State → Type 0
+Runs Γ fn f s out o out' r s' = InEach Γ fn s (λ E. Passes Γ fn out o out' (f E) r s')

@@ -7,15 +7,17 @@ use native.Mathlib.Numerals.{add-one}
 use native.Mathlib.Omega.{arith}
 use lib.ListN.{length, get_or, drop, drop_of_length-le}
 use lib.Seq.{drop-cons}
+use Rattle.std.specs.Prelude.{Result, Ok, Err}
 use Rattle.model.specs.Tree.{Tree, size}
 use Rattle.model.specs.State.{pairs}
 use Rattle.model.specs.Record.{Entry}
 use Rattle.records.specs.Here.{Coded}
+use Rattle.refusal.specs.declared.Refusal.{Refusal}
 use Rattle.statements.specs.declared.Out.{Out}
 use Rattle.statements.specs.Kept.{Counted}
 use Rattle.collectors.specs.declared.got.Got.{Got}
 use Rattle.collectors.specs.Trail.{trail, Added, root}
-use Rattle.collectors.specs.Gets.{read_to, Stands, StandAll, Ended, Opening, OpeningAll, Leading, LeadingAll, Owing, OwingAll}
+use Rattle.collectors.specs.Gets.{read_to, Stands, StandAll, Opening, OpeningAll, Leading, LeadingAll, Owing, OwingAll}
 use Rattle.collectors.proofs.Telling.{told, told_done}
 use Rattle.collectors.proofs.Standing.{stands_first, stands_rest}
 use Rattle.collectors.proofs.Opens.{unfolds_none, unfolds_refused, unfolds_next, unfolds_more}
@@ -48,94 +50,76 @@ pub rest_stands : {Γ fs ws : List ℕ} {i t : ℕ} (locals : List ℕ) → t �
     → ((x : Tree) → Coded Γ fs ws 0 t x → i ≡ 0 + size x) → StandAll Γ fs ws i (drop 1 locals) 1
 rest_stands locals e k h g = (stands_rest h (one_left locals 0 e k) g).0
 
--- what was read, by its ends
-ended_read : {out out' : List ℕ} {o : Out} {r : Got} {i j k : ℕ} {es : List Entry} → Ended out o out' r i j k es → r ≡ read_to r.first r.second r.out
-ended_read {r} E = λ i. record { first = r.first; second = r.second; out = r.out; refusal = E.clear i }
-
 module _ (Γ fs ws locals : List ℕ) (out₀ : List ℕ) (o : Out) (out : List ℕ) (l : ℕ) (g : Got) where
   -- what opens l locals is told
   pub record Opened : Type 0 where
-    pub same : g ≡ read_to 0 g.second g.out
+    pub same : g.first ≡ 0
     pub counted : Counted out g.out
     pub stands : StandAll Γ fs ws g.second (drop l locals) 1
-    pub whole : (out' : List ℕ) (s : Got) → OpeningAll Γ out g.out out' s (root l) fs ws g.second (drop l locals) → OpeningAll Γ out₀ o out' s (root 0) fs ws 0 locals
+    pub whole : (out' : List ℕ) (s : Result Got Refusal) → OpeningAll Γ out g.out out' s (root l) fs ws g.second (drop l locals) → OpeningAll Γ out₀ o out' s (root 0) fs ws 0 locals
 
 module _ {Γ fs ws locals : List ℕ} {out₀ : List ℕ} {o : Out} where
-  -- of none
-  pub opened_none : {g : Got} → g ≡ read_to 0 0 o → Counted out₀ o → StandAll Γ fs ws 0 locals 1 → Opened Γ fs ws locals out₀ o out₀ 0 g
-  opened_none e h s = rw e (record { same = refl; counted = h; stands = s; whole = λ out' s A. A })
-
   module _ {out : List ℕ} {l : ℕ} {g : Got} (P : Opened Γ fs ws locals out₀ o out l g) where
     -- of all
-    pub opened_all : {o' : Out} → o ≡ o' → length locals ≤ l → OpeningAll Γ out₀ o' out g (root 0) fs ws 0 locals
-    opened_all d h = rw d at (P.whole out g (unfolds_none (drop_of_length-le locals h) P.counted P.same))
+    pub opened_all : length locals ≤ l → OpeningAll Γ out₀ o out (Ok g) (root 0) fs ws 0 locals
+    opened_all h = P.whole out (Ok g) (unfolds_none (drop_of_length-le locals h) P.counted (ap (λ (k : ℕ). read_to k g.second g.out) P.same))
 
     -- of one more
-    module _ {out₁ : List ℕ} {q : List Entry} {r : Got} {t : ℕ} (e : t ≡ get_or locals l 0) (h : l < length locals)
-        (A : Opening Γ out g.out out₁ r q fs ws g.second t) where
+    module _ {out₁ : List ℕ} {q : List Entry} {t : ℕ} (e : t ≡ get_or locals l 0) (h : l < length locals) where
       -- it is refused
-      pub opened_refused : {o' : Out} → o ≡ o' → (r.refusal ≡ 0 → ⊥) → OpeningAll Γ out₀ o' out₁ r (root 0) fs ws 0 locals
-      opened_refused d f = rw d at (P.whole out₁ r (unfolds_refused (one_left locals l e h) A f))
+      pub opened_refused : {x : Refusal} → Opening Γ out g.out out₁ (Err x) q fs ws g.second t → OpeningAll Γ out₀ o out₁ (Err x) (root 0) fs ws 0 locals
+      opened_refused {x} A = P.whole out₁ (Err x) (unfolds_refused (one_left locals l e h) A)
 
       -- it is recorded
-      pub opened_more : r.refusal ≡ 0 → root l 0 ≡ q → Opened Γ fs ws locals out₀ o out₁ (l + 1) r
-      opened_more z d =
-          let N = unfolds_next (one_left locals l e h) A z P.stands in
+      pub opened_more : {r : Got} → Opening Γ out g.out out₁ (Ok r) q fs ws g.second t → root l 0 ≡ q → Opened Γ fs ws locals out₀ o out₁ (l + 1) r
+      opened_more A d =
+          let N = unfolds_next (one_left locals l e h) A P.stands in
           let S = local_stands locals l e h P.stands in
-          let E = (told (A.tree S.tree S.coded) z).2 in
           record {
-            same = ended_read E ∙ ap (λ (k : ℕ). read_to k r.second r.out) E.first;
+            same = (told (A.tree S.tree S.coded)).2.first;
             counted = N.3;
             stands = N.0;
-            whole = λ out' s B. P.whole out' s (unfolds_more (one_left locals l e h) A z d (root_next l) B);
+            whole = λ out' s B. P.whole out' s (unfolds_more (one_left locals l e h) A d (root_next l) B);
           }
 
 module _ (Γ fs ws gs vs locals : List ℕ) (out₀ : List ℕ) (o : Out) (out : List ℕ) (l : ℕ) (g : Got) where
   -- what leads from l locals to others is told
   pub record Led : Type 0 where
-    pub same : g ≡ read_to g.first g.second g.out
     pub counted : Counted out g.out
     pub first : StandAll Γ fs ws g.first (drop l locals) 1
     pub second : StandAll Γ gs vs g.second (drop l locals) 1
-    pub whole : (out' : List ℕ) (s : Got) → LeadingAll Γ out g.out out' s (root l) fs ws g.first gs vs g.second (drop l locals)
+    pub whole : (out' : List ℕ) (s : Result Got Refusal) → LeadingAll Γ out g.out out' s (root l) fs ws g.first gs vs g.second (drop l locals)
         → LeadingAll Γ out₀ o out' s (root 0) fs ws 0 gs vs 0 locals
 
 module _ {Γ fs ws gs vs locals : List ℕ} {out₀ : List ℕ} {o : Out} where
-  -- of none
-  pub led_none : {g : Got} → g ≡ read_to 0 0 o → Counted out₀ o → StandAll Γ fs ws 0 locals 1 → StandAll Γ gs vs 0 locals 1
-      → Led Γ fs ws gs vs locals out₀ o out₀ 0 g
-  led_none e h s t = rw e (record { same = refl; counted = h; first = s; second = t; whole = λ out' s A. A })
-
   module _ {out : List ℕ} {l : ℕ} {g : Got} (P : Led Γ fs ws gs vs locals out₀ o out l g) where
     -- of all
-    pub led_all : {o' : Out} → o ≡ o' → length locals ≤ l → LeadingAll Γ out₀ o' out g (root 0) fs ws 0 gs vs 0 locals
-    led_all d h = rw d at (P.whole out g (leads_none (drop_of_length-le locals h) P.counted P.same))
+    pub led_all : length locals ≤ l → LeadingAll Γ out₀ o out (Ok g) (root 0) fs ws 0 gs vs 0 locals
+    led_all h = P.whole out (Ok g) (leads_none (drop_of_length-le locals h) P.counted refl)
 
     -- of one more
-    module _ {out₁ : List ℕ} {q : List Entry} {r : Got} {t : ℕ} (e : t ≡ get_or locals l 0) (h : l < length locals)
-        (A : Leading Γ out g.out out₁ r q fs ws g.first gs vs g.second t) where
+    module _ {out₁ : List ℕ} {q : List Entry} {t : ℕ} (e : t ≡ get_or locals l 0) (h : l < length locals) where
       -- it is refused
-      pub led_refused : {o' : Out} → o ≡ o' → (r.refusal ≡ 0 → ⊥) → LeadingAll Γ out₀ o' out₁ r (root 0) fs ws 0 gs vs 0 locals
-      led_refused d f = rw d at (P.whole out₁ r (leads_refused (one_left locals l e h) A f))
+      pub led_refused : {x : Refusal} → Leading Γ out g.out out₁ (Err x) q fs ws g.first gs vs g.second t
+          → LeadingAll Γ out₀ o out₁ (Err x) (root 0) fs ws 0 gs vs 0 locals
+      led_refused {x} A = P.whole out₁ (Err x) (leads_refused (one_left locals l e h) A)
 
       -- it is recorded
-      pub led_more : r.refusal ≡ 0 → root l 0 ≡ q → Led Γ fs ws gs vs locals out₀ o out₁ (l + 1) r
-      led_more z d =
-          let N = leads_next (one_left locals l e h) A z P.first P.second in
-          let S = local_stands locals l e h P.first in
-          let R = local_stands locals l e h P.second in
+      pub led_more : {r : Got} → Leading Γ out g.out out₁ (Ok r) q fs ws g.first gs vs g.second t → root l 0 ≡ q
+          → Led Γ fs ws gs vs locals out₀ o out₁ (l + 1) r
+      led_more A d =
+          let N = leads_next (one_left locals l e h) A P.first P.second in
           record {
-            same = ended_read (told (A.tree S.tree R.tree S.coded R.coded) z).2;
             counted = N.4;
             first = N.0;
             second = N.1;
-            whole = λ out' s B. P.whole out' s (leads_more (one_left locals l e h) A z d (root_next l) B);
+            whole = λ out' s B. P.whole out' s (leads_more (one_left locals l e h) A d (root_next l) B);
           }
 
 module _ (Γ fs ws locals ts : List ℕ) (out₀ : List ℕ) (o : Out) (i : ℕ) (out : List ℕ) (l : ℕ) (g : Got) where
   -- what a return owes of the locals from 1 up to l is told; ts: the first of the locals
   pub record OwedTo : Type 0 where
-    pub same : g ≡ read_to g.first 0 g.out
+    pub same : g.second ≡ 0
     pub counted : Counted out g.out
     pub stands : StandAll Γ fs ws g.first (drop l locals) 1
     pub whole : (out' : List ℕ) (s : Got) → OwingAll Γ out g.out out' s (root l) fs ws g.first (drop l ts) → OwingAll Γ out₀ o out' s (root 1) fs ws i (drop 1 ts)
@@ -147,8 +131,8 @@ module _ {Γ fs ws locals ts : List ℕ} {out₀ : List ℕ} {o : Out} {i : ℕ}
 
   module _ {out : List ℕ} {l : ℕ} {g : Got} (P : OwedTo Γ fs ws locals ts out₀ o i out l g) where
     -- of all
-    pub owed_all : {o' : Out} {j : ℕ} → o ≡ o' → i ≡ j → length ts ≤ l → OwingAll Γ out₀ o' out g (root 1) fs ws j (drop 1 ts)
-    owed_all d e h = rw (d, e) at (P.whole out g (folds_none (drop_of_length-le ts h) P.counted P.same))
+    pub owed_all : length ts ≤ l → OwingAll Γ out₀ o out g (root 1) fs ws i (drop 1 ts)
+    owed_all h = P.whole out g (folds_none (drop_of_length-le ts h) P.counted (ap (λ (k : ℕ). read_to g.first k g.out) P.same))
 
     -- of one more
     pub owed_more : {out₁ : List ℕ} {q : List Entry} {r : Got} {t : ℕ} → t ≡ get_or locals l 0 → l < length locals → l < length ts → get_or ts l 0 ≡ get_or locals l 0
@@ -156,9 +140,8 @@ module _ {Γ fs ws locals ts : List ℕ} {out₀ : List ℕ} {o : Out} {i : ℕ}
     owed_more {out₁} {q} {r} e h k d A w =
         let N = folds_next (one_left locals l e h) A P.stands in
         let S = local_stands locals l e h P.stands in
-        let E = told_done (A.tree S.tree S.coded) in
         record {
-          same = ended_read E ∙ ap (λ (n : ℕ). read_to r.first n r.out) E.second;
+          same = (told_done (A.tree S.tree S.coded)).second;
           counted = N.3;
           stands = N.0;
           whole = λ out' s B. P.whole out' s (folds_more (one_left ts l (e ∙ sym d) k) A w (root_next l) B);

@@ -5,21 +5,14 @@ ghost use Rattle.std.specs.Prelude.{◌≡◌, length};
 ghost use Rattle.model.specs.Calls.{call_collect, call_unfolds, call_folds};
 ghost use Rattle.state.specs.Value.{value};
 ghost use Rattle.statements.specs.Kept.{Counted};
-ghost use Rattle.collect.specs.Answers.{start, refuses, Writes, ReadyTo, Finishes, Ends, Leads, Opens, Settles};
+ghost use Rattle.collect.specs.Answers.{start, refuses, Writes, ReadyTo, Ends, Leads, Opens, Settles};
 
 pub mod states;
 
 use input::{check_given, check_locals};
+use refusal::Refusal;
 use state::nodes::State;
-use statements::{ENTRY, Out, Point, begun, finish, wipe};
-use states::Collected;
-
-// The counts of a record, or the refusal.
-#[derive(Drop)]
-pub enum Record {
-    Done { statements: usize, entries: usize },
-    Refused(u32),
-}
+use statements::{Counts, ENTRY, Out, Point, begun, finish, wipe};
 
 // Nothing is recorded yet, and every point of a collecting call is the entry.
 fn start() -> Out
@@ -29,35 +22,21 @@ fn start() -> Out
 }
 
 // A refusal: the buffer is zeroed.
-fn refused(out: &mut [u32], n: u32) -> Record
-    ensures { Writes (length out.old) (refuses n) result out.new }
+fn refused(out: &mut [u32], r: Refusal) -> Result<Counts, Refusal>
+    ensures { Writes (length out.old) (refuses r) result out.new }
 {
     wipe(out);
-    Record::Refused(n)
+    Err(r)
 }
 
-// The record is written out.
-fn finished(out: &mut [u32], o: Out) -> Record
-    requires { Counted out.old o }
-    ensures { Finishes out.old o result out.new }
-{
-    if finish(out, o) {
-        return Record::Done {
-            statements: o.statements,
-            entries: o.entries,
-        };
-    }
-    Record::Refused(10)
-}
-
-// A collector has ended.
-fn ended(out: &mut [u32], c: Collected) -> Record
+// A collector has ended: the record is written out, or it was refused.
+fn ended(out: &mut [u32], c: Result<Out, Refusal>) -> Result<Counts, Refusal>
     requires { ReadyTo out.old c }
     ensures { Ends out.old c result out.new }
 {
     match c {
-        Collected::Refused(n) => refused(out, n),
-        Collected::Done(o) => finished(out, o),
+        Ok(o) => finish(out, o),
+        Err(r) => refused(out, r),
     }
 }
 
@@ -68,37 +47,40 @@ pub fn collect_fold_unfolds(
     s: State,
     e: State,
     out: &mut [u32],
-) -> Record
+) -> Result<Counts, Refusal>
     ensures writes { Writes (length out.old) (call_collect types.now locals.now (value s) (value e) (length out.old)) result out.new }
     ensures promised { Leads types.now locals.now s e result out.new }
 {
     let mut offs = [0u32; 4096];
-    let a = check_locals(types, locals, &mut offs);
-    if a != 0 {
-        return refused(out, a);
+    if let Err(r) = check_locals(types, locals, &mut offs) {
+        return refused(out, r);
     }
-    if check_given(types, &offs, locals, s) != 0 {
-        return refused(out, 3);
+    if let Err(r) = check_given(types, &offs, locals, s) {
+        return refused(out, r);
     }
-    if check_given(types, &offs, locals, e) != 0 {
-        return refused(out, 3);
+    if let Err(r) = check_given(types, &offs, locals, e) {
+        return refused(out, r);
     }
     let c = states::collect_fold_unfolds(types, &offs, locals, s, e, out, start());
     ended(out, c)
 }
 
 // From all folded to a state.
-pub fn collect_unfolds(types: &[u32], locals: &[u32], s: State, out: &mut [u32]) -> Record
+pub fn collect_unfolds(
+    types: &[u32],
+    locals: &[u32],
+    s: State,
+    out: &mut [u32],
+) -> Result<Counts, Refusal>
     ensures writes { Writes (length out.old) (call_unfolds types.now locals.now (value s) (length out.old)) result out.new }
     ensures promised { Opens types.now locals.now s result out.new }
 {
     let mut offs = [0u32; 4096];
-    let a = check_locals(types, locals, &mut offs);
-    if a != 0 {
-        return refused(out, a);
+    if let Err(r) = check_locals(types, locals, &mut offs) {
+        return refused(out, r);
     }
-    if check_given(types, &offs, locals, s) != 0 {
-        return refused(out, 3);
+    if let Err(r) = check_given(types, &offs, locals, s) {
+        return refused(out, r);
     }
     let c = states::collect_unfolds(types, &offs, locals, s, out, start());
     ended(out, c)
@@ -111,21 +93,20 @@ pub fn collect_folds_at_ret(
     a: usize,
     s: State,
     out: &mut [u32],
-) -> Record
+) -> Result<Counts, Refusal>
     ensures writes { Writes (length out.old) (call_folds types.now locals.now a (value s) (length out.old)) result out.new }
     ensures promised { Settles types.now locals.now a s result out.new }
 {
     let mut offs = [0u32; 4096];
-    let n = check_locals(types, locals, &mut offs);
-    if n != 0 {
-        return refused(out, n);
+    if let Err(r) = check_locals(types, locals, &mut offs) {
+        return refused(out, r);
     }
     if locals.len() <= a {
-        return refused(out, 3);
+        return refused(out, Refusal::BadState);
     }
-    if check_given(types, &offs, locals, s) != 0 {
-        return refused(out, 3);
+    if let Err(r) = check_given(types, &offs, locals, s) {
+        return refused(out, r);
     }
-    let o = states::collect_folds_at_ret(types, &offs, locals, a, &s.forms, &s.whats, out, start());
-    finished(out, o)
+    let o = states::collect_folds_at_ret(types, &offs, locals, a, &s, out, start());
+    finish(out, o)
 }

@@ -6,16 +6,17 @@ ghost use Rattle.type_record.specs.Sizes.{Ready};
 ghost use Rattle.statements.specs.Kept.{Counted};
 ghost use Rattle.collectors.specs.Trail.{Long, root};
 ghost use Rattle.collectors.specs.Gets.{StandAll, OpeningAll, LeadingAll};
-ghost use Rattle.collect.specs.Answers.{outcome, Held, HeldIn, Moves, Unfolds, Owes, Owed};
+ghost use Rattle.collect.specs.Answers.{Held, HeldIn, Moves, Unfolds, Owes, Owed};
 
 use collectors::folds::folds_node;
 use collectors::got::{Cursor, Got, reached};
 use collectors::pairs::collect_node;
 use collectors::path::set_item;
 use collectors::unfolds::unfolds_node;
+use mir::items::ROOT;
+use refusal::Refusal;
 use state::nodes::{State, node_end};
 use statements::Out;
-use type_record::record::wide;
 
 // What opens each local, one after the other, until it is as its tree.
 fn unfolds_locals<'a>(
@@ -28,7 +29,7 @@ fn unfolds_locals<'a>(
     args: &mut [u32],
     out: &mut [u32],
     o: Out,
-) -> Got
+) -> Result<Got, Refusal>
     requires ready { Ready types.now offs.now }
     requires locals_value { locals_ok types.now locals.now ≡ true }
     requires stand_all { StandAll types.now forms.now whats.now 0 locals.now 1 }
@@ -36,24 +37,18 @@ fn unfolds_locals<'a>(
     requires counted { Counted out.old o }
     ensures { OpeningAll types.now out.old o out.new result (root 0) forms.now whats.now 0 locals.now }
 {
-    let count = locals.len();
     let mut g = reached(0, 0, o);
-    let mut l = 0;
-    while l < count {
-        set_item(ops, args, 0, 0, l);
+    for (l, t) in locals.iter().enumerate() {
+        set_item(ops, args, 0, ROOT, l);
         let c = Cursor {
             first: 0,
             second: g.second,
-            typ: wide(locals[l]),
+            typ: *t as usize,
             depth: 1,
         };
-        g = unfolds_node(types, offs, forms, whats, c, ops, args, out, g.out);
-        if g.refusal != 0 {
-            return g;
-        }
-        l += 1;
+        g = unfolds_node(types, offs, forms, whats, c, ops, args, out, g.out)?;
     }
-    g
+    Ok(g)
 }
 
 // What leads from each local's first tree to its second.
@@ -69,7 +64,7 @@ fn collect_locals<'a>(
     args: &mut [u32],
     out: &mut [u32],
     o: Out,
-) -> Got
+) -> Result<Got, Refusal>
     requires ready { Ready types.now offs.now }
     requires locals_value { locals_ok types.now locals.now ≡ true }
     requires stand_all { StandAll types.now f1.now w1.now 0 locals.now 1 }
@@ -78,24 +73,18 @@ fn collect_locals<'a>(
     requires counted { Counted out.old o }
     ensures { LeadingAll types.now out.old o out.new result (root 0) f1.now w1.now 0 f2.now w2.now 0 locals.now }
 {
-    let n = locals.len();
     let mut g = reached(0, 0, o);
-    let mut l = 0;
-    while l < n {
-        set_item(ops, args, 0, 0, l);
+    for (l, typ) in locals.iter().enumerate() {
+        set_item(ops, args, 0, ROOT, l);
         let c = Cursor {
             first: g.first,
             second: g.second,
-            typ: wide(locals[l]),
+            typ: *typ as usize,
             depth: 1,
         };
-        g = collect_node(types, offs, f1, w1, f2, w2, c, ops, args, out, g.out);
-        if g.refusal != 0 {
-            return g;
-        }
-        l += 1;
+        g = collect_node(types, offs, f1, w1, f2, w2, c, ops, args, out, g.out)?;
     }
-    g
+    Ok(g)
 }
 
 // What a return owes of the locals 1 to a.
@@ -119,40 +108,19 @@ fn folds_locals<'a>(
     requires counted { Counted out.old o }
     ensures { Owed types.now out.old o out.new result a forms.now whats.now locals.now }
 {
-    let i = node_end(types, offs, forms, whats, 0, wide(locals[0]));
+    let i = node_end(types, offs, forms, whats, 0, locals[0] as usize);
     let mut g = reached(i, 0, o);
-    let mut l = 1;
-    while l <= a {
-        set_item(ops, args, 0, 0, l);
+    for l in 1..a + 1 {
+        set_item(ops, args, 0, ROOT, l);
         let c = Cursor {
             first: g.first,
             second: 0,
-            typ: wide(locals[l]),
+            typ: locals[l] as usize,
             depth: 1,
         };
         g = folds_node(types, offs, forms, whats, c, ops, args, out, g.out);
-        l += 1;
     }
     g
-}
-
-// What is recorded, or a refusal.
-#[derive(Drop)]
-pub enum Collected {
-    Done(Out),
-    Refused(u32),
-}
-
-// A collector's last word.
-fn outcome(g: Got) -> Collected
-    ensures { result ≡ outcome g }
-{
-    let n = g.refusal;
-    if n != 0 {
-        return Collected::Refused(n);
-    }
-    let q = g.out;
-    Collected::Done(q)
 }
 
 // From one state to another.
@@ -164,7 +132,7 @@ pub fn collect_fold_unfolds(
     e: State,
     out: &mut [u32],
     o: Out,
-) -> Collected
+) -> Result<Out, Refusal>
     requires ready { Ready types.now offs.now }
     requires locals_value { locals_ok types.now locals.now ≡ true }
     requires held { Held types.now locals.now s }
@@ -176,8 +144,8 @@ pub fn collect_fold_unfolds(
     let mut args = [0u32; 130];
     let g = collect_locals(
         types, offs, locals, &s.forms, &s.whats, &e.forms, &e.whats, &mut ops, &mut args, out, o,
-    );
-    outcome(g)
+    )?;
+    Ok(g.out)
 }
 
 // From all folded to a state.
@@ -188,7 +156,7 @@ pub fn collect_unfolds(
     s: State,
     out: &mut [u32],
     o: Out,
-) -> Collected
+) -> Result<Out, Refusal>
     requires ready { Ready types.now offs.now }
     requires locals_value { locals_ok types.now locals.now ≡ true }
     requires held { Held types.now locals.now s }
@@ -199,32 +167,31 @@ pub fn collect_unfolds(
     let mut args = [0u32; 130];
     let g = unfolds_locals(
         types, offs, locals, &s.forms, &s.whats, &mut ops, &mut args, out, o,
-    );
-    outcome(g)
+    )?;
+    Ok(g.out)
 }
 
 // The folds that a return owes: of the locals 1 to a. The state is lent, so that a block that returns need not copy it.
-pub fn collect_folds_at_ret<'a>(
+pub fn collect_folds_at_ret(
     types: &[u32],
     offs: &[u32],
     locals: &[u32],
     a: usize,
-    forms: &'a [u16],
-    whats: &'a [u16],
+    s: &State,
     out: &mut [u32],
     o: Out,
 ) -> Out
     requires ready { Ready types.now offs.now }
     requires locals_value { locals_ok types.now locals.now ≡ true }
     requires a_in_bounds { a < length locals.now }
-    requires held_in { HeldIn types.now locals.now forms.now whats.now }
+    requires held_in { HeldIn types.now locals.now s.now.forms s.now.whats }
     requires counted { Counted out.old o }
-    ensures { Owes types.now locals.now a forms.now whats.now out.old o out.new result }
+    ensures { Owes types.now locals.now a s.now.forms s.now.whats out.old o out.new result }
 {
     let mut ops = [0u32; 130];
     let mut args = [0u32; 130];
     let g = folds_locals(
-        types, offs, locals, a, forms, whats, &mut ops, &mut args, out, o,
+        types, offs, locals, a, &s.forms, &s.whats, &mut ops, &mut args, out, o,
     );
     g.out
 }

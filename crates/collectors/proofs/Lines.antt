@@ -10,11 +10,13 @@ use Rattle.model.specs.Place.{Place, Verb, Statement, At, here, under, first, la
 use Rattle.model.specs.Collect.{hop, lift, both}
 use Rattle.model.specs.Frame.{mark}
 use Rattle.model.specs.Record.{Entry, elem_entry, verb_entry, point_entry, line_entries, entries}
+use Rattle.type_record.specs.Kinds.{kind_code}
+use Rattle.type_record.specs.declared.kinds.Kind.{Kind}
 use Rattle.collectors.specs.declared.path.Way.{Way}
 use Rattle.collectors.specs.Trail.{line, lines, lines_of, way, root}
 
 -- the way to the first child of a node of kind k, open at v
-abbrev pub way_in : Bool → ℕ → ℕ → Way
+abbrev pub way_in : Bool → Kind → ℕ → Way
 way_in full k v = record { full = full; kind = k; variant = v; child = 0 }
 
 -- the verb of a statement seen from further up
@@ -36,12 +38,12 @@ module _ (p : Entry) where
       ∙ ap (λ (l : List Entry). p ∷ verb_entry c.verb ∷ l) (sym (append_assoc q (map elem_entry h) (map elem_entry c.place)))
 
   -- statements of the children, seen from the node
-  pub lines_lift : (q : List Entry) (full : Bool) (k v : ℕ) (a : List At) → lines p q (map (lift full k v) a) ≡ lines_of p (way q (way_in full k v)) a
+  pub lines_lift : (q : List Entry) (full : Bool) (k : Kind) (v : ℕ) (a : List At) → lines p q (map (lift full (kind_code k) v) a) ≡ lines_of p (way q (way_in full k v)) a
   unfolding lines lines_of lift way
   lines_lift q full k v [] = refl
   lines_lift q full k v (c ∷ a) =
       ap₂ ◌++◌
-      (line_under q (hop full k v c.number) c.what ∙ ap (λ (i : ℕ). line p (q ++ map elem_entry (hop full k v i)) c.what) (sym (zero-add c.number)))
+      (line_under q (hop full (kind_code k) v c.number) c.what ∙ ap (λ (i : ℕ). line p (q ++ map elem_entry (hop full (kind_code k) v i)) c.what) (sym (zero-add c.number)))
       (lines_lift q full k v a)
 
   -- statements of the later trees

@@ -16,6 +16,8 @@ use Rattle.model.specs.Record.{Entry, elem_entry, verb_entry}
 use Rattle.base.specs.Kinds.{Known}
 use Rattle.records.specs.Here.{Coded}
 use Rattle.records.specs.Coded.{coded_folded, coded_opened, coded_none, coded_split}
+use Rattle.type_record.specs.Kinds.{kind_named}
+use Rattle.type_record.specs.declared.kinds.Kind.{Kind}
 use Rattle.statements.specs.declared.Out.{Out}
 use Rattle.statements.specs.Kept.{point_of, Counted, Puts}
 use Rattle.collectors.specs.declared.got.Got.{Got}
@@ -23,6 +25,7 @@ use Rattle.collectors.specs.Trail.{line, lines, lines_of, way}
 use Rattle.collectors.specs.Gets.{read_to, StandAll, tells_done, Owing, OwingAll}
 use Rattle.collectors.proofs.Lines.{way_in}
 use Rattle.collectors.proofs.Telling.{ended_at, ended_none, told_done, tells_lift, tells_both}
+use Rattle.collectors.proofs.Reading.{known_code}
 use Rattle.collectors.proofs.Standing.{stands_first, stands_rest}
 
 module _ {Γ fs ws out : List ℕ} {i t : ℕ} {q : List Entry} {o : Out} {r : Got} where
@@ -48,20 +51,21 @@ module _ {Γ fs ws out : List ℕ} {i t : ℕ} {q : List Entry} {o : Out} {r : G
         record {
           tree = λ x c.
               rw (← (g x c), (coded_opened c f).is, eq-eqb (kind Γ t) 2 k, k)
-              (tells_done {cs = push deref (here Fold) ∷ []} (rw append-nil (ended_at e w.0 w.1)));
+              (tells_done {g = r} {cs = push deref (here Fold) ∷ []} (rw append-nil (ended_at e w.0 w.1)));
         }
 
     -- another node: its children owe
-    pub fold_below : {us out' : List ℕ} {k v : ℕ} → kind Γ t ≢ 1 → kind Γ t ≢ 2 → us ≡ kids Γ t (get_or ws i 0) → k ≡ kind Γ t → v ≡ get_or ws i 0
+    pub fold_below : {us out' : List ℕ} {k : Kind} {v : ℕ} → Known Γ → kind Γ t ≢ 1 → kind Γ t ≢ 2 → us ≡ kids Γ t (get_or ws i 0) → k ≡ kind_named (kind Γ t) → v ≡ get_or ws i 0
         → OwingAll Γ out o out' r (way q (way_in true k v)) fs ws (i + 1) us → Owing Γ out o out' r q fs ws i t
     unfolding folds size
-    fold_below h g d n w A =
+    fold_below known h g d n w A =
         record {
           tree = λ x c.
               let O = coded_opened c f in
               let end : i + suc (sizes O.children) ≡ i + 1 + sizes O.children = omega arith in
               let T = (rw (d, n, w) at A).trees O.children O.below in
-              rw (O.is, ne_eqb (kind Γ t) 1 h, ne_eqb (kind Γ t) 2 g, end) (tells_lift (point_of o) q true (kind Γ t) (get_or ws i 0) T);
+              let lift = tells_lift (point_of o) q true (kind_named (kind Γ t)) (get_or ws i 0) T in
+              rw (O.is, ne_eqb (kind Γ t) 1 h, ne_eqb (kind Γ t) 2 g, end) (rw (known_code Γ known t) at lift);
         }
 
 -- the trees of some types
@@ -91,5 +95,5 @@ module _ {Γ fs ws us out : List ℕ} {i : ℕ} {o : Out} where
               let T = A.tree S.head S.here in
               let E = told_done T in
               let end : i + (size S.head + sizes S.tail) ≡ r.first + sizes S.tail = omega (arith, E.first) in
-              rw (S.is, end) (tells_both q q₀ q₁ a b T E.clear (B.trees S.tail (rw E.first S.rest)));
+              rw (S.is, end) (tells_both q q₀ q₁ a b T (B.trees S.tail (rw E.first S.rest)));
         }

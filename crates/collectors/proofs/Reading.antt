@@ -1,20 +1,32 @@
 -- The children that are left of a node, as code reads them of a type record. Assumes nothing.
-use mathlib.Core.Path.{◌≡◌, sym, ◌∙◌, ap}
+use mathlib.Core.Path.{◌≡◌, refl, sym, ◌∙◌, ap}
 use mathlib.Core.Bool.{Bool}
 use mathlib.Core.List.{List, [], ◌∷◌}
-use Prim.Native.Nat.{ℕ, ◌<◌}
+use Prim.Native.Nat.{ℕ, ◌≤◌, ◌<◌}
 use native.Mathlib.Omega.{arith}
 use lib.ListN.{length}
-use Rattle.model.specs.Types.{ntypes, part, parts, kids}
+use Rattle.model.specs.Types.{ntypes, kind, part, parts, kids}
+use Rattle.base.specs.Kinds.{Known}
 use Rattle.base.specs.Parts.{parts_none, parts_cons, length_parts}
 use Rattle.base.specs.Typed.{parts_inside}
+use Rattle.type_record.specs.Kinds.{kind_code, kind_named}
+use Rattle.type_record.proofs.KindLaws.{named}
+use Rattle.type_record.specs.declared.kinds.Kind.{Kind}
 use Rattle.type_record.specs.Sizes.{Ready}
 use Rattle.state.specs.declared.kids.Kids.{Kids}
 use Rattle.state.specs.Kids.{KidsOf}
 use Rattle.state.proofs.Fields.{ready_typed, fields_first, fields_rest}
 use Rattle.collectors.specs.declared.got.Children.{Children}
-use Rattle.collectors.specs.Trail.{Short}
 use Rattle.collectors.specs.Gets.{types_of, left, Room, Siblings}
+
+-- a kind of the record, as the code names it, has its number
+pub known_code : (Γ : List ℕ) → Known Γ → (t : ℕ) → kind_code (kind_named (kind Γ t)) ≡ kind Γ t
+unfolding kind_named
+known_code Γ known t =
+    named (λ n k. n ≤ 10 → kind_code k ≡ n)
+    ((λ l. refl), ((λ l. refl), ((λ l. refl), ((λ l. refl), ((λ l. refl), ((λ l. refl), ((λ l. refl), ((λ l. refl), ((λ l. refl), ((λ l. refl), ((λ l. refl), tt)))))))))))
+    (λ n h l. absurd (omega arith))
+    (kind Γ t) (known t)
 
 -- none is left
 pub none_left : (Γ : List ℕ) (k : Children) → k.kids.count ≡ 0 → types_of Γ k.kids ≡ []
@@ -32,10 +44,6 @@ module _ {Γ : List ℕ} {k : Children} (S : Siblings Γ k) (p : 0 < k.kids.coun
   pub siblings_type : {t : ℕ} → t ≡ part Γ k.kids.owner k.kids.first → t < ntypes Γ
   siblings_type e = rw e (fields_first S.fields p)
 
-  -- the way to it is short
-  pub siblings_short : Short k.way
-  siblings_short = record { variant = omega (arith, S.variant); child = omega (arith, S.child) }
-
   -- its numbers are small
   pub siblings_room : {offs : List ℕ} → Ready Γ offs → Room k
   siblings_room R =
@@ -52,7 +60,7 @@ module _ {Γ : List ℕ} {t v : ℕ} {r : Kids} (h : KidsOf Γ t v r) where
   kids_length = ap length (sym h.all) ∙ length_parts Γ r.owner r.first r.count
 
   -- all of them are left
-  pub kids_siblings : {offs : List ℕ} {i j m w n : ℕ} {full : Bool} → Ready Γ offs → w < 65536
+  pub kids_siblings : {offs : List ℕ} {i j w n : ℕ} {full : Bool} {m : Kind} → Ready Γ offs → w < 65536
       → Siblings Γ (record { first = i; second = j; kids = r; way = record { full = full; kind = m; variant = w; child = 0 }; depth = n })
   kids_siblings R l =
       let T = ready_typed R in

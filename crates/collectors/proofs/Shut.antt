@@ -66,7 +66,5 @@ module _ {Γ fs ws : List ℕ} (known : Known Γ) where
   pub zeros_tell : (ts : List ℕ) {xs : Forest} {i n : ℕ} {r : Bool} → CodedAll Γ fs ws i ts xs → length ts ≡ n → Zeros fs i n r → folded xs ≡ r
   zeros_tell ts {xs} {i} {n} {r} h e Z =
       split r
-      (λ y. zeros_folded ts h (λ k l. Z.shut y k (omega arith)) ∙ sym y)
-      (λ y.
-      let O = Z.opened y in
-      split (folded xs) (λ f. absurd (O.2 (folded_zeros ts h f O.0 (omega arith)))) (λ f. f ∙ sym y))
+      (λ y. zeros_folded ts h (λ k l. Z.0 y k (omega arith)) ∙ sym y)
+      (λ y. split (folded xs) (λ f. f ∙ sym (Z.1 (λ k l. folded_zeros ts h f k (omega arith)))) (λ f. f ∙ sym y))

@@ -6,6 +6,7 @@ use Prim.Native.Nat.{ℕ, suc, ◌+◌, ◌≤◌, ◌<◌}
 use native.Mathlib.Numerals.{add-one}
 use native.Mathlib.Nat.{suc_inj, add-zero}
 use native.Mathlib.Omega.{arith}
+use denote.Enum.Bare.{sameb}
 use lib.Dec.{eqb}
 use lib.ListN.{length, take, set}
 use lib.Seq.{take_at, take-take, take-suc-set, length-take-le}
@@ -14,6 +15,10 @@ use Rattle.model.specs.State.{pairs}
 use Rattle.model.specs.Collect.{hop}
 use Rattle.model.specs.Record.{Entry, elem_entry}
 use Rattle.records.specs.Pairs.{take_pairs}
+use Rattle.type_record.specs.Kinds.{kind_code}
+use Rattle.type_record.specs.contracts.kinds.Kind.{the_type}
+use Rattle.type_record.specs.declared.kinds.Kind.{Kind}
+use Rattle.type_record.specs.declared.kinds.Kind.TheVariants.{Opaque, Pointer, Reference, Box, Array, Tuple, Struct, Enum, Variant, Closure, Coroutine, Other}
 use Rattle.collectors.specs.declared.path.Way.{Way}
 use Rattle.collectors.specs.declared.got.Children.{Children}
 use Rattle.collectors.specs.Trail.{trail, elems, Long, Added, Keeps, Hopped, way}
@@ -72,25 +77,36 @@ module _ {ops args : List ℕ} (L : Long ops args) {n : ℕ} where
 pub keeps_then : {a b a₁ b₁ a₂ b₂ : List ℕ} {n : ℕ} → Keeps a b a₁ b₁ n → Keeps a₁ b₁ a₂ b₂ n → Keeps a b a₂ b₂ n
 keeps_then K J = record { items = J.items ∙ K.items }
 
--- nothing was set
-pub keeps_none : {a b : List ℕ} {n : ℕ} → Keeps a b a b n
-keeps_none = record { items = refl }
+-- a kind that is an enum's, as the code tests it
+pub enum_code : (k : Kind) → eqb (kind_code k) 7 ≡ sameb the_type k Enum
+enum_code Opaque = refl
+enum_code Pointer = refl
+enum_code Reference = refl
+enum_code Box = refl
+enum_code Array = refl
+enum_code Tuple = refl
+enum_code Struct = refl
+enum_code Enum = refl
+enum_code Variant = refl
+enum_code Closure = refl
+enum_code Coroutine = refl
+enum_code Other = refl
 
 -- the three ways of a hop
 module _ {ops args ops' args' : List ℕ} {n : ℕ} {w : Way} {r : ℕ} where
   -- through a pointer
-  pub hop_deref : pointer w.kind ≡ true → Added ops args ops' args' n 1 0 → r ≡ n + 1 → Hopped ops args ops' args' n w r
+  pub hop_deref : pointer (kind_code w.kind) ≡ true → Added ops args ops' args' n 1 0 → r ≡ n + 1 → Hopped ops args ops' args' n w r
   unfolding hop elem_entry
   hop_deref p e d = record { low = omega arith; high = omega arith; items = rw (d, p) e.items }
 
   -- to a field
-  pub hop_field : pointer w.kind ≡ false → w.full && eqb w.kind 7 ≡ false → Added ops args ops' args' n 2 w.child → r ≡ n + 1
+  pub hop_field : pointer (kind_code w.kind) ≡ false → w.full && eqb (kind_code w.kind) 7 ≡ false → Added ops args ops' args' n 2 w.child → r ≡ n + 1
       → Hopped ops args ops' args' n w r
   unfolding hop elem_entry
   hop_field p f e d = record { low = omega arith; high = omega arith; items = rw (d, p, f) e.items }
 
   -- to a variant's field
-  pub hop_cast : {ops₁ args₁ : List ℕ} → pointer w.kind ≡ false → w.full && eqb w.kind 7 ≡ true → Added ops args ops₁ args₁ n 3 w.variant
+  pub hop_cast : {ops₁ args₁ : List ℕ} → pointer (kind_code w.kind) ≡ false → w.full && eqb (kind_code w.kind) 7 ≡ true → Added ops args ops₁ args₁ n 3 w.variant
       → Added ops₁ args₁ ops' args' (n + 1) 2 w.child → r ≡ n + 2 → Hopped ops args ops' args' n w r
   unfolding hop elem_entry
   hop_cast p f e g d =

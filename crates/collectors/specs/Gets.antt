@@ -1,5 +1,5 @@
 -- What the collectors over preorder arrays leave: where the trees are read up to, and what is recorded of them.
-use Rattle.std.specs.Prelude.{◌≡◌, Bool, true, false, List, ℕ, ◌+◌, ◌-◌, ◌*◌, ◌≤◌, ◌<◌, length, get_or}
+use Rattle.std.specs.Prelude.{◌≡◌, ◌↔◌, Bool, IsTrue, Result, Ok, Err, List, ℕ, ◌+◌, ◌-◌, ◌*◌, ◌≤◌, ◌<◌, length, get_or}
 use Rattle.model.specs.Types.{parts}
 use Rattle.model.specs.Answer.{Answer, refused, done}
 use Rattle.model.specs.Tree.{Tree, Forest, size, sizes}
@@ -7,6 +7,8 @@ use Rattle.model.specs.Typing.{depth, depths}
 use Rattle.model.specs.Collect.{unfolds, unfoldss, collect, collects, folds, foldss}
 use Rattle.model.specs.Record.{Entry}
 use Rattle.records.specs.Here.{Coded, CodedAll}
+use Rattle.refusal.specs.declared.Refusal.{Refusal}
+use Rattle.refusal.specs.Refusal.{number}
 use Rattle.state.specs.Found.{Fields}
 use Rattle.state.specs.declared.kids.Kids.{Kids}
 use Rattle.statements.specs.declared.Out.{Out}
@@ -16,13 +18,12 @@ use Rattle.collectors.specs.declared.got.Children.{Children}
 use Rattle.collectors.specs.Trail.{trail, lines, lines_of, way}
 
 -- r tells whether the n words from i on are zeros
-pub record Zeros (fs : List ℕ) (i n : ℕ) (r : Bool) : Type 0 where
-  pub shut : r ≡ true → (k : ℕ) → k < n → get_or fs (i + k) 0 ≡ 0
-  pub opened : r ≡ false → (k : ℕ) × (k < n) × (get_or fs (i + k) 0 ≡ 0 → ⊥)
+abbrev pub Zeros : List ℕ → ℕ → ℕ → Bool → Type 0
+Zeros fs i n r = IsTrue r ↔ ((k : ℕ) → k < n → get_or fs (i + k) 0 ≡ 0)
 
 -- the trees are read up to i and j, and o is what is recorded
 abbrev pub read_to : ℕ → ℕ → Out → Got
-read_to i j o = record { first = i; second = j; out = o; refusal = 0 }
+read_to i j o = record { first = i; second = j; out = o }
 
 -- the types of children
 abbrev pub types_of : List ℕ → Kids → List ℕ
@@ -66,45 +67,45 @@ pub record Siblings (Γ : List ℕ) (k : Children) : Type 0 where
   pub child : k.way.child + k.kids.count ≤ 16384
   pub variant : k.way.variant < 65536
 
-module _ (out : List ℕ) (o : Out) (out' : List ℕ) (r : Got) where
+module _ (out : List ℕ) (o : Out) (out' : List ℕ) where
   -- the trees are read up to i and j, and k statements, of these entries, are recorded; the point stays
-  pub record Ended (i j k : ℕ) (es : List Entry) : Type 0 where
-    pub clear : r.refusal ≡ 0
-    pub first : r.first ≡ i
-    pub second : r.second ≡ j
-    pub puts : Puts k out o out' r.out es
-    pub point : r.out.point ≡ o.point
+  pub record Ended (g : Got) (i j k : ℕ) (es : List Entry) : Type 0 where
+    pub first : g.first ≡ i
+    pub second : g.second ≡ j
+    pub puts : Puts k out o out' g.out es
+    pub point : g.out.point ≡ o.point
 
-  -- a collector's answer is told: its statements are recorded, of the entries that es gives, or r has its refusal
-  pub data Tells {A : Type 0} (es : List A → List Entry) (i j : ℕ) : Answer (List A) → Type 0 where
-    tells_refused : {n : ℕ} → r.refusal ≡ n → 0 < n → Tells es i j (refused n)
-    tells_done : {cs : List A} → Ended i j (length cs) (es cs) → Tells es i j (done cs)
+  -- a result tells a collector's answer: its statements are recorded, of the entries that es gives, or it is refused with the same number
+  pub data Tells {A : Type 0} (es : List A → List Entry) (i j : ℕ) : Result Got Refusal → Answer (List A) → Type 0 where
+    tells_refused : {e : Refusal} → Tells es i j (Err e) (refused (number e))
+    tells_done : {g : Got} {cs : List A} → Ended g i j (length cs) (es cs) → Tells es i j (Ok g) (done cs)
 
 -- THE CONTRACTS, at the point of o: of the tree that q leads to, or of trees that q leads to by their numbers, whichever stand there
 
-module _ (Γ : List ℕ) (out : List ℕ) (o : Out) (out' : List ℕ) (r : Got) where
+module _ (Γ : List ℕ) (out : List ℕ) (o : Out) (out' : List ℕ) (r : Result Got Refusal) where
   -- what opens it is told
   pub record Opening (q : List Entry) (fs ws : List ℕ) (i t : ℕ) : Type 0 where
-    pub tree : (x : Tree) → Coded Γ fs ws i t x → Tells out o out' r (lines (point_of o) q) 0 (i + size x) (unfolds Γ x)
+    pub tree : (x : Tree) → Coded Γ fs ws i t x → Tells out o out' (lines (point_of o) q) 0 (i + size x) r (unfolds Γ x)
 
   -- what opens them
   pub record OpeningAll (q : ℕ → List Entry) (fs ws : List ℕ) (i : ℕ) (ts : List ℕ) : Type 0 where
-    pub trees : (xs : Forest) → CodedAll Γ fs ws i ts xs → Tells out o out' r (lines_of (point_of o) q) 0 (i + sizes xs) (unfoldss Γ xs)
+    pub trees : (xs : Forest) → CodedAll Γ fs ws i ts xs → Tells out o out' (lines_of (point_of o) q) 0 (i + sizes xs) r (unfoldss Γ xs)
 
   -- what leads from it to another is told
   pub record Leading (q : List Entry) (fs ws : List ℕ) (i : ℕ) (gs vs : List ℕ) (j t : ℕ) : Type 0 where
     pub tree : (x y : Tree) → Coded Γ fs ws i t x → Coded Γ gs vs j t y
-        → Tells out o out' r (lines (point_of o) q) (i + size x) (j + size y) (collect Γ x y)
+        → Tells out o out' (lines (point_of o) q) (i + size x) (j + size y) r (collect Γ x y)
 
   -- what leads from them to others
   pub record LeadingAll (q : ℕ → List Entry) (fs ws : List ℕ) (i : ℕ) (gs vs : List ℕ) (j : ℕ) (ts : List ℕ) : Type 0 where
     pub trees : (xs ys : Forest) → CodedAll Γ fs ws i ts xs → CodedAll Γ gs vs j ts ys
-        → Tells out o out' r (lines_of (point_of o) q) (i + sizes xs) (j + sizes ys) (collects Γ xs ys)
+        → Tells out o out' (lines_of (point_of o) q) (i + sizes xs) (j + sizes ys) r (collects Γ xs ys)
 
-  -- what a return owes of it is told
+module _ (Γ : List ℕ) (out : List ℕ) (o : Out) (out' : List ℕ) (g : Got) where
+  -- what a return owes of it is told, and never refused
   pub record Owing (q : List Entry) (fs ws : List ℕ) (i t : ℕ) : Type 0 where
-    pub tree : (x : Tree) → Coded Γ fs ws i t x → Tells out o out' r (lines (point_of o) q) (i + size x) 0 (done (folds Γ x))
+    pub tree : (x : Tree) → Coded Γ fs ws i t x → Tells out o out' (lines (point_of o) q) (i + size x) 0 (Ok g) (done (folds Γ x))
 
   -- what a return owes of them
   pub record OwingAll (q : ℕ → List Entry) (fs ws : List ℕ) (i : ℕ) (ts : List ℕ) : Type 0 where
-    pub trees : (xs : Forest) → CodedAll Γ fs ws i ts xs → Tells out o out' r (lines_of (point_of o) q) (i + sizes xs) 0 (done (foldss Γ xs))
+    pub trees : (xs : Forest) → CodedAll Γ fs ws i ts xs → Tells out o out' (lines_of (point_of o) q) (i + sizes xs) 0 (Ok g) (done (foldss Γ xs))

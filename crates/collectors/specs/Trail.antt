@@ -4,6 +4,7 @@ use Rattle.model.specs.State.{pairs}
 use Rattle.model.specs.Place.{Statement, At}
 use Rattle.model.specs.Collect.{hop}
 use Rattle.model.specs.Record.{Entry, elem_entry, verb_entry}
+use Rattle.type_record.specs.Kinds.{kind_code}
 use Rattle.collectors.specs.declared.path.Way.{Way}
 
 -- the first n items of the two arrays
@@ -30,7 +31,7 @@ pub record Short (w : Way) : Type 0 where
 
 -- the elements of a way to the child i
 abbrev pub elems : Way → ℕ → List Entry
-elems w i = map elem_entry (hop w.full w.kind w.variant i)
+elems w i = map elem_entry (hop w.full (kind_code w.kind) w.variant i)
 
 -- the items of ops' and args' up to r are those of ops and args up to n, and the way w
 pub record Hopped (ops args ops' args' : List ℕ) (n : ℕ) (w : Way) (r : ℕ) : Type 0 where

@@ -7,11 +7,12 @@ ghost use Rattle.collectors.specs.Trail.{trail, Long, Keeps};
 ghost use Rattle.collectors.specs.Gets.{types_of, ways, Siblings, Stands, StandAll, Owing, OwingAll};
 
 use crate::got::{Children, Cursor, Got, left, reached};
-use crate::path::{Way, hop, set_item};
+use crate::path::{DEREF, Way, hop, set_item};
 use state::kids::kids_of;
-use state::nodes::{node_end, wide16};
+use state::nodes::node_end;
 use statements::{FOLD, Out, record};
-use type_record::record::{kind_of, part_at};
+use type_record::kinds::Kind;
+use type_record::record::{kind_at, part_at};
 
 // What a return owes of the tree at the cursor.
 #[cycle(folds_fields_folds_node)]
@@ -39,13 +40,13 @@ pub fn folds_node<'a>(
     if forms[i] == 0 {
         return reached(next, 0, o);
     }
-    let kind = kind_of(types, c.typ);
-    if kind == 1 {
+    let kind = kind_at(types, c.typ);
+    if kind == Kind::Pointer {
         let e = node_end(types, offs, forms, whats, i, c.typ);
         return reached(e, 0, o);
     }
-    if kind == 2 {
-        set_item(ops, args, c.depth, 1, 0);
+    if kind == Kind::Reference {
+        set_item(ops, args, c.depth, DEREF, 0);
         let r = record(out, o, FOLD, 0, ops, args, c.depth + 1);
         let e = node_end(types, offs, forms, whats, i, c.typ);
         return reached(e, 0, r);
@@ -58,7 +59,7 @@ pub fn folds_node<'a>(
         way: Way {
             full: true,
             kind,
-            variant: wide16(w),
+            variant: usize::from(w),
             child: 0,
         },
         depth: c.depth,
@@ -73,7 +74,7 @@ fn folds_fields<'a>(
     offs: &[u32],
     forms: &'a [u16],
     whats: &'a [u16],
-    mut k: Children,
+    k: Children,
     ops: &mut [u32],
     args: &mut [u32],
     out: &mut [u32],
@@ -100,6 +101,6 @@ fn folds_fields<'a>(
         depth: n,
     };
     let a = folds_node(types, offs, forms, whats, c, ops, args, out, o);
-    k = left(k, a.first, 0);
-    folds_fields(types, offs, forms, whats, k, ops, args, out, a.out)
+    let rest = left(k, a.first, 0);
+    folds_fields(types, offs, forms, whats, rest, ops, args, out, a.out)
 }

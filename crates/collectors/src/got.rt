@@ -8,7 +8,7 @@ use state::kids::Kids;
 use statements::Out;
 
 // A node of each tree, of one type, and how many items lead there.
-#[derive(Drop)]
+#[derive(Clone, Copy)]
 pub struct Cursor {
     pub first: usize,
     pub second: usize,
@@ -18,7 +18,7 @@ pub struct Cursor {
 
 // The children that are left of a node of each tree: the places of the next, which parts they are, the way from the node to the
 // next, and how many items lead to the node.
-#[derive(Drop)]
+#[derive(Clone, Copy)]
 pub struct Children {
     pub first: usize,
     pub second: usize,
@@ -38,49 +38,29 @@ pub fn left(k: Children, first: usize, second: usize) -> Children
         first,
         second,
         kids: Kids {
-            owner: ks.owner,
             first: ks.first + 1,
             count: ks.count - 1,
+            ..ks
         },
         way: Way {
-            full: w.full,
-            kind: w.kind,
-            variant: w.variant,
             child: w.child + 1,
+            ..w
         },
-        depth: k.depth,
+        ..k
     }
 }
 
-// Just past the trees read, and what is recorded; a refusal, or 0.
-#[derive(Drop)]
+// Just past the trees read, and what is recorded.
+#[derive(Clone, Copy)]
 pub struct Got {
     pub first: usize,
     pub second: usize,
     pub out: Out,
-    pub refusal: u32,
 }
 
-// The trees are read up to here, and nothing is refused.
+// The trees are read up to here.
 pub fn reached(first: usize, second: usize, out: Out) -> Got
     ensures { result ≡ read_to first second out }
 {
-    Got {
-        first,
-        second,
-        out,
-        refusal: 0,
-    }
-}
-
-// A refusal.
-pub fn refuse(n: u32, out: Out) -> Got
-    ensures { result.refusal ≡ n }
-{
-    Got {
-        first: 0,
-        second: 0,
-        out,
-        refusal: n,
-    }
+    Got { first, second, out }
 }

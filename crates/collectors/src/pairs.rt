@@ -6,13 +6,14 @@ ghost use Rattle.statements.specs.Kept.{Counted};
 ghost use Rattle.collectors.specs.Trail.{trail, Long, Keeps};
 ghost use Rattle.collectors.specs.Gets.{types_of, ways, Siblings, Stands, StandAll, Leading, LeadingAll};
 
-use crate::got::{Children, Cursor, Got, left, reached, refuse};
+use crate::got::{Children, Cursor, Got, left, reached};
 use crate::path::{Way, hop};
 use crate::unfolds::unfolds_node;
+use refusal::Refusal;
 use state::kids::kids_of;
-use state::nodes::{node_end, wide16};
+use state::nodes::node_end;
 use statements::{FOLD, Out, record};
-use type_record::record::{kind_of, part_at};
+use type_record::record::{kind_at, part_at};
 
 // What leads from the first tree at the cursor to the second.
 #[cycle(collect_fields_collect_node)]
@@ -28,7 +29,7 @@ pub fn collect_node<'a>(
     args: &mut [u32],
     out: &mut [u32],
     o: Out,
-) -> Got
+) -> Result<Got, Refusal>
     requires ready { Ready types.now offs.now }
     requires typ_bound { c.typ < ntypes types.now }
     requires stands { Stands types.now f1.now w1.now c.first c.typ c.depth }
@@ -44,22 +45,19 @@ pub fn collect_node<'a>(
     let j1 = j + 1;
     if f1[i] == 0 {
         if f2[j] == 0 {
-            return reached(i1, j1, o);
+            return Ok(reached(i1, j1, o));
         }
-        let a = unfolds_node(types, offs, f2, w2, c, ops, args, out, o);
-        if a.refusal != 0 {
-            return a;
-        }
-        return reached(i1, a.second, a.out);
+        let a = unfolds_node(types, offs, f2, w2, c, ops, args, out, o)?;
+        return Ok(reached(i1, a.second, a.out));
     }
     if f2[j] == 0 {
         let r = record(out, o, FOLD, 0, ops, args, c.depth);
         let e = node_end(types, offs, f1, w1, i, c.typ);
-        return reached(e, j1, r);
+        return Ok(reached(e, j1, r));
     }
     let w = w1[i];
     if w != w2[j] {
-        return refuse(6, o);
+        return Err(Refusal::OtherVariant);
     }
     let k = Children {
         first: i1,
@@ -67,8 +65,8 @@ pub fn collect_node<'a>(
         kids: kids_of(types, offs, c.typ, w),
         way: Way {
             full: false,
-            kind: kind_of(types, c.typ),
-            variant: wide16(w),
+            kind: kind_at(types, c.typ),
+            variant: usize::from(w),
             child: 0,
         },
         depth: c.depth,
@@ -85,12 +83,12 @@ fn collect_fields<'a>(
     w1: &'a [u16],
     f2: &'a [u16],
     w2: &'a [u16],
-    mut k: Children,
+    k: Children,
     ops: &mut [u32],
     args: &mut [u32],
     out: &mut [u32],
     o: Out,
-) -> Got
+) -> Result<Got, Refusal>
     requires ready { Ready types.now offs.now }
     requires siblings { Siblings types.now k }
     requires stand_all { StandAll types.now f1.now w1.now k.first (types_of types.now k.kids) (k.depth + 2) }
@@ -102,7 +100,7 @@ fn collect_fields<'a>(
 {
     let ks = k.kids;
     if ks.count == 0 {
-        return reached(k.first, k.second, o);
+        return Ok(reached(k.first, k.second, o));
     }
     let t = part_at(types, offs, ks.owner, ks.first);
     let n = hop(ops, args, k.depth, k.way);
@@ -112,10 +110,7 @@ fn collect_fields<'a>(
         typ: t,
         depth: n,
     };
-    let a = collect_node(types, offs, f1, w1, f2, w2, c, ops, args, out, o);
-    if a.refusal != 0 {
-        return a;
-    }
-    k = left(k, a.first, a.second);
-    collect_fields(types, offs, f1, w1, f2, w2, k, ops, args, out, a.out)
+    let a = collect_node(types, offs, f1, w1, f2, w2, c, ops, args, out, o)?;
+    let rest = left(k, a.first, a.second);
+    collect_fields(types, offs, f1, w1, f2, w2, rest, ops, args, out, a.out)
 }

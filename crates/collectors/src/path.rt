@@ -4,7 +4,14 @@ ghost use Rattle.moments.specs.Lent.{after};
 ghost use Rattle.collectors.specs.Trail.{Long, Short, Added, Hopped};
 
 use statements::small;
-use type_record::kinds::pointer;
+use type_record::kinds::Kind;
+
+// Kept: the codes of elements once more, since this crate does not depend on mir, whose items have them.
+pub const DEREF: u32 = 1;
+
+const FIELD: u32 = 2;
+
+const DOWNCAST: u32 = 3;
 
 // The item behind the first n.
 pub fn set_item(ops: &mut [u32], args: &mut [u32], n: usize, op: u32, arg: usize)
@@ -21,7 +28,7 @@ pub fn set_item(ops: &mut [u32], args: &mut [u32], n: usize, op: u32, arg: usize
 #[derive(Clone, Copy)]
 pub struct Way {
     pub full: bool,
-    pub kind: u32,
+    pub kind: Kind,
     pub variant: usize,
     pub child: usize,
 }
@@ -33,17 +40,15 @@ pub fn hop(ops: &mut [u32], args: &mut [u32], n: usize, w: Way) -> usize
     requires short { Short w }
     ensures { Hopped ops.old args.old ops.new args.new n w result }
 {
-    if pointer(w.kind) {
-        set_item(ops, args, n, 1, 0);
+    if w.kind.pointer() {
+        set_item(ops, args, n, DEREF, 0);
         return n + 1;
     }
-    if w.full {
-        if w.kind == 7 {
-            set_item(ops, args, n, 3, w.variant);
-            set_item(ops, args, n + 1, 2, w.child);
-            return n + 2;
-        }
+    if w.full && w.kind == Kind::Enum {
+        set_item(ops, args, n, DOWNCAST, w.variant);
+        set_item(ops, args, n + 1, FIELD, w.child);
+        return n + 2;
     }
-    set_item(ops, args, n, 2, w.child);
+    set_item(ops, args, n, FIELD, w.child);
     n + 1
 }

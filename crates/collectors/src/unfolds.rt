@@ -6,26 +6,20 @@ ghost use Rattle.statements.specs.Kept.{Counted};
 ghost use Rattle.collectors.specs.Trail.{trail, Long, Keeps};
 ghost use Rattle.collectors.specs.Gets.{types_of, ways, Zeros, Siblings, Stands, StandAll, Opening, OpeningAll};
 
-use crate::got::{Children, Cursor, Got, left, reached, refuse};
+use crate::got::{Children, Cursor, Got, left, reached};
 use crate::path::{Way, hop};
+use refusal::Refusal;
 use state::kids::kids_of;
-use state::nodes::wide16;
 use statements::{Out, UNFOLD, record};
-use type_record::record::{kind_of, part_at};
+use type_record::kinds::Kind;
+use type_record::record::{kind_at, part_at};
 
 // Are all of the n trees from i on folded? They are then n nodes.
 fn all_folded(forms: &[u16], i: usize, n: usize) -> bool
     requires { i + n ≤ length forms.now }
     ensures { Zeros forms.now i n result }
 {
-    let mut k = 0;
-    while k < n {
-        if forms[i + k] != 0 {
-            return false;
-        }
-        k += 1;
-    }
-    true
+    forms[i..i + n].iter().all(|form| *form == 0)
 }
 
 // What opens a folded tree until it is as the one at the cursor.
@@ -40,7 +34,7 @@ pub fn unfolds_node<'a>(
     args: &mut [u32],
     out: &mut [u32],
     o: Out,
-) -> Got
+) -> Result<Got, Refusal>
     requires ready { Ready types.now offs.now }
     requires typ_bound { c.typ < ntypes types.now }
     requires stands { Stands types.now forms.now whats.now c.second c.typ c.depth }
@@ -52,17 +46,17 @@ pub fn unfolds_node<'a>(
     let i = c.second;
     let next = i + 1;
     if forms[i] == 0 {
-        return reached(0, next, o);
+        return Ok(reached(0, next, o));
     }
     let w = whats[i];
     let ks = kids_of(types, offs, c.typ, w);
-    let kind = kind_of(types, c.typ);
+    let kind = kind_at(types, c.typ);
     if all_folded(forms, next, ks.count) {
-        if kind == 7 {
-            return refuse(7, o);
+        if kind == Kind::Enum {
+            return Err(Refusal::BareVariant);
         }
         let r = record(out, o, UNFOLD, 0, ops, args, c.depth);
-        return reached(0, next + ks.count, r);
+        return Ok(reached(0, next + ks.count, r));
     }
     let k = Children {
         first: 0,
@@ -71,7 +65,7 @@ pub fn unfolds_node<'a>(
         way: Way {
             full: true,
             kind,
-            variant: wide16(w),
+            variant: usize::from(w),
             child: 0,
         },
         depth: c.depth,
@@ -86,12 +80,12 @@ fn unfolds_fields<'a>(
     offs: &[u32],
     forms: &'a [u16],
     whats: &'a [u16],
-    mut k: Children,
+    k: Children,
     ops: &mut [u32],
     args: &mut [u32],
     out: &mut [u32],
     o: Out,
-) -> Got
+) -> Result<Got, Refusal>
     requires ready { Ready types.now offs.now }
     requires siblings { Siblings types.now k }
     requires stand_all { StandAll types.now forms.now whats.now k.second (types_of types.now k.kids) (k.depth + 2) }
@@ -102,7 +96,7 @@ fn unfolds_fields<'a>(
 {
     let ks = k.kids;
     if ks.count == 0 {
-        return reached(0, k.second, o);
+        return Ok(reached(0, k.second, o));
     }
     let t = part_at(types, offs, ks.owner, ks.first);
     let n = hop(ops, args, k.depth, k.way);
@@ -112,10 +106,7 @@ fn unfolds_fields<'a>(
         typ: t,
         depth: n,
     };
-    let a = unfolds_node(types, offs, forms, whats, c, ops, args, out, o);
-    if a.refusal != 0 {
-        return a;
-    }
-    k = left(k, 0, a.second);
-    unfolds_fields(types, offs, forms, whats, k, ops, args, out, a.out)
+    let a = unfolds_node(types, offs, forms, whats, c, ops, args, out, o)?;
+    let rest = left(k, 0, a.second);
+    unfolds_fields(types, offs, forms, whats, rest, ops, args, out, a.out)
 }

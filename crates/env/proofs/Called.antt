@@ -7,6 +7,9 @@ use mathlib.Core.Option.{some}
 use Prim.Native.Nat.{ℕ}
 use native.Mathlib.Omega.{arith}
 use lib.ListN.{length}
+use Rattle.std.specs.Prelude.{Err}
+use Rattle.refusal.specs.Refusal.{number, answered}
+use Rattle.refusal.specs.declared.Refusal.{Refusal}
 use Rattle.model.specs.Answer.{Answer, refused, done, ◌>>=◌}
 use Rattle.model.specs.Types.{types_ok}
 use Rattle.model.specs.Tree.{Forest}
@@ -24,13 +27,14 @@ use Rattle.records.specs.Encode.{decode_holds}
 use Rattle.records.specs.Holds.{holds_encode}
 use Rattle.state.specs.Value.{value}
 use Rattle.state.specs.declared.nodes.State.{State}
-use Rattle.env.specs.declared.project.Projected.TheVariants.{Refused}
+use Rattle.env.specs.declared.project.Use.{Use}
 use Rattle.env.specs.declared.project.Usage.{Usage}
 use Rattle.env.specs.declared.project.Moved.{Moved}
-use Rattle.env.specs.Answers.{recorded, Projects, Moves, call_recorded, call_told, Records, refusal, call_outcome, Gives, Uses, Refuses}
+use Rattle.env.specs.Answers.{usage, moved, recorded, use_of, granted, Projects, Moves, Records, Gives, Uses, Refuses}
 use Rattle.env.specs.There.{Wherever, ProjectsThere}
 use Rattle.env.specs.Given.{Asked}
 use Rattle.env.specs.Tested.{Tested}
+use Rattle.env.proofs.Testing.{number_some}
 
 module _ {Γ locals os : List ℕ} {s : Model.State} {ops args : List ℕ} {ok : Spot → Bool} {r : ℕ} (t : Tested Γ locals os s ops args ok r) where
   -- the types and the local types pass
@@ -74,11 +78,10 @@ module _ {Γ locals os : List ℕ} {s : Model.State} {ops args : List ℕ} {ok :
     call_goes z d p k = let (a, b) = tested_types z in rw (a, b, d, taken, p, placed, k)
 
 -- what the calls within a run ask of the input
-pub tested_input : {Γ locals os : List ℕ} {s : State} {ops args : List ℕ} {ok : Spot → Bool} {r : ℕ} → Tested Γ locals os (value s) ops args ok r → r ≡ 0
-    → Asked Γ os locals s ops args ok
-tested_input {Γ} {locals} {s = s} t z =
-    let (E, q, d, p, k) = tested_both t z in
-    (t.ready z, ((tested_types t z).1, record { state = E; holds = decode_holds Γ locals (value s) E d; spot = q; is = p; passes = k }))
+pub tested_input : {Γ locals os : List ℕ} {s : State} {ops args : List ℕ} {ok : Spot → Bool} → Tested Γ locals os (value s) ops args ok 0 → Asked Γ os locals s ops args ok
+tested_input {Γ} {locals} {s = s} t =
+    let (E, q, d, p, k) = tested_both t refl in
+    (t.ready refl, ((tested_types t refl).1, record { state = E; holds = decode_holds Γ locals (value s) E d; spot = q; is = p; passes = k }))
 
 -- THE ANSWERS
 
@@ -97,13 +100,11 @@ module _ {Γ locals : List ℕ} {s : State} where
       split_answer a
       (λ n d. let k : b ≡ refused n = e ∙ rw d in record {
         answer = P.answer ∙ rw (d, k);
-        told = P.told ∙ rw (d, k);
         moved = λ w c. clash (cc);
         kept = λ j c. P.kept n d;
       })
       (λ w d. let k : b ≡ shown Γ m w = e ∙ rw d in record {
         answer = P.answer ∙ rw (d, k);
-        told = P.told ∙ rw (d, k);
         moved = λ v c. let same : (recorded_as w.1, m, encode Γ w.0) ≡ v = cc in sym (holds_encode (P.moved w d)) ∙ ap (λ (x : Recorded × ℕ × Model.State). x.2) same;
         kept = λ j c. clash (cc);
       })
@@ -137,11 +138,13 @@ recorded_one (unfold_at m) nothing e = clash (cc)
 recorded_one (unfold_at m) fold e = clash (cc)
 recorded_one (unfold_at m) (unfold_at n) e = cc
 
--- and is no refusal
-recorded_goes : (v : Recorded) (n : ℕ) {P : Type 0} → recorded v ≡ Refused n → P
-recorded_goes nothing n e = clash (cc)
-recorded_goes fold n e = clash (cc)
-recorded_goes (unfold_at m) n e = clash (cc)
+-- so is the number beside it
+use_one : {m n : ℕ} {v w : Recorded} → use_of m v ≡ use_of n w → (v ≡ w) × (m ≡ n)
+use_one {v = v} {w} e = (recorded_one v w (ap (λ (u : Use). u.recorded) e), ap (λ (u : Use). u.passed) e)
+
+-- the call's answer, as the code has it
+abbrev as_use : Answer (Recorded × ℕ × Model.State) → Answer Use
+as_use a = a >>= λ w. done (use_of w.1 w.0)
 
 module _ (Γ locals : List ℕ) (s : State) (ops args : List ℕ) where
   -- what is promised of a projection follows
@@ -153,50 +156,53 @@ module _ (Γ locals : List ℕ) (s : State) (ops args : List ℕ) where
       let a = call_projection Γ locals (value s) ops args in (
         R,
         record {
-          numbered = λ n h. split_answer a
-              (λ k d. only_at (projection_refuses Γ locals (value s) ops args) (cc R.answer))
-              (λ w d. recorded_goes w.0 n (cc R.answer));
-          used = λ v h. split_answer a
-              (λ k d. recorded_goes v k (cc R.answer))
-              (λ w d. let f : w.0 ≡ v = recorded_one w.0 v (cc R.answer) in let t : u.passed ≡ w.1 = R.told ∙ ap call_told d in rw (← f, t, R.moved w d) (good_at (call_used Γ locals (value s) ops args) d));
+          numbered = λ n h. let e : refused (number n) ≡ as_use a = ap answered (sym h) ∙ R.answer in split_answer a
+              (λ k d. only_at (projection_refuses Γ locals (value s) ops args) (cc))
+              (λ w d. clash (cc));
+          used = λ v m h. let e : done (use_of m v) ≡ as_use a = ap answered (sym h) ∙ R.answer in split_answer a
+              (λ k d. clash (cc))
+              (λ w d. let g : use_of m v ≡ use_of w.1 w.0 = cc in let (f, t) = use_one {v = v} {w = w.0} g in rw (f, t, R.moved w d) (good_at (call_used Γ locals (value s) ops args) d));
         },
       )
 
-  module _ {os : List ℕ} {r : ℕ} (t : Tested Γ locals os (value s) ops args (used_ok (length locals)) r) where
+  module _ {os : List ℕ} where
     -- a test stops the projection
-    pub projection_stops : r ≢ 0 → Promised (record { answer = Refused r; passed = 0; state = s })
+    pub projection_stops : {n : Refusal} → Tested Γ locals os (value s) ops args (used_ok (length locals)) (number n) → Promised (usage (Err n) s)
     unfolding call_projection
-    projection_stops n =
-        let e = call_stops t (λ E q. projection Γ q E >>= shown Γ (passed Γ q.place (pick q.local E))) n in
-        projection_promised (record { answer = ap call_recorded (sym e); told = ap call_told (sym e); moved = λ w d. clash (cc); kept = λ n d. refl })
+    projection_stops {n} t =
+        let e = call_stops t (λ E q. projection Γ q E >>= shown Γ (passed Γ q.place (pick q.local E))) (number_some n) in
+        projection_promised (record { answer = ap as_use (sym e); moved = λ w d. clash (cc); kept = λ n d. refl })
 
     -- it is done
-    pub projection_goes : r ≡ 0 → {u : Usage} → ProjectsThere Γ locals s ops args u → Promised u
+    pub projection_goes : Tested Γ locals os (value s) ops args (used_ok (length locals)) 0 → {u : Usage} → ProjectsThere Γ locals s ops args u → Promised u
     unfolding call_projection
-    projection_goes z P =
-        let (E, q, d, p, k) = tested_both t z in
-        projection_promised (records_of (call_goes t (λ E q. projection Γ q E >>= shown Γ (passed Γ q.place (pick q.local E))) z d p k) (P E q (decode_holds Γ locals (value s) E d) p))
+    projection_goes t P =
+        let (E, q, d, p, k) = tested_both t refl in
+        projection_promised (records_of (call_goes t (λ E q. projection Γ q E >>= shown Γ (passed Γ q.place (pick q.local E))) refl d p k) (P E q (decode_holds Γ locals (value s) E d) p))
 
 -- THE OTHER CALLS
 
--- a call that gives a state alone, by its test of the place and by what it does with a state
-abbrev pub call : (Γ locals : List ℕ) → State → (ops args : List ℕ) → (Spot → Bool) → (Spot → Forest → Answer Forest) → Answer Model.State
-call Γ locals s ops args ok a = typed Γ locals (λ _. taken Γ locals (value s) (λ E. placed ok ops args (λ q. a q E >>= given_back Γ)))
+module _ (Γ locals : List ℕ) (s : State) (ops args : List ℕ) (ok : Spot → Bool) (a : Spot → Forest → Answer Forest) where
+  -- a call that gives a state alone, by its test of the place and by what it does with a state
+  abbrev pub call : Answer Model.State
+  call = typed Γ locals (λ _. taken Γ locals (value s) (λ E. placed ok ops args (λ q. a q E >>= given_back Γ)))
 
-module _ {Γ locals os : List ℕ} {s : State} {ops args : List ℕ} {ok : Spot → Bool} {r : ℕ} (t : Tested Γ locals os (value s) ops args ok r)
-    (a : Spot → Forest → Answer Forest) {ns : List ℕ} (o : Only ns (call Γ locals s ops args ok a)) {m : Moved} where
-  -- the numbers with which it refuses
-  gives_promised : Gives s (call Γ locals s ops args ok a) m → Gives s (call Γ locals s ops args ok a) m × Refuses ns m
-  gives_promised G = (G, λ n h. split_answer (call Γ locals s ops args ok a) (λ k d. only_at o (cc G.answer)) (λ w d. clash (cc G.answer)))
+  module _ {ns : List ℕ} (o : Only ns call) where
+    -- the numbers with which it refuses
+    gives_promised : {m : Moved} → Gives s call m → Gives s call m × Refuses ns m
+    gives_promised G =
+        (G, λ n h. let e : refused (number n) ≡ granted call = ap answered (sym h) ∙ G.answer in split_answer call (λ k d. only_at o (cc)) (λ w d. clash (cc)))
 
-  -- a test stops it
-  pub gives_stops : r ≢ 0 → m ≡ refusal r s → Gives s (call Γ locals s ops args ok a) m × Refuses ns m
-  gives_stops n e =
-      let c = call_stops t (λ E q. a q E >>= given_back Γ) n in
-      gives_promised (rw e (record { answer = ap call_outcome (sym c); moved = λ w d. clash (cc); kept = λ n d. refl }))
+    module _ {os : List ℕ} where
+      -- a test stops it
+      pub gives_stops : {n : Refusal} → Tested Γ locals os (value s) ops args ok (number n) → Gives s call (moved (Err n) s) × Refuses ns (moved (Err n) s)
+      gives_stops {n} t =
+          let c = call_stops t (λ E q. a q E >>= given_back Γ) (number_some n) in
+          gives_promised (record { answer = ap granted (sym c); moved = λ w d. clash (cc); kept = λ n d. refl })
 
-  -- it is done
-  pub gives_goes : r ≡ 0 → {l : Moved} → m ≡ l → Wherever Γ locals s ops args (λ E q. Moves Γ locals s (a q E) l) → Gives s (call Γ locals s ops args ok a) m × Refuses ns m
-  gives_goes z e P =
-      let (E, q, d, p, k) = tested_both t z in
-      gives_promised (rw e (gives_of (call_goes t (λ E q. a q E >>= given_back Γ) z d p k) (P E q (decode_holds Γ locals (value s) E d) p)))
+      -- it is done
+      pub gives_goes : Tested Γ locals os (value s) ops args ok 0 → {m : Moved} → Wherever Γ locals s ops args (λ E q. Moves Γ locals s (a q E) m)
+          → Gives s call m × Refuses ns m
+      gives_goes t P =
+          let (E, q, d, p, k) = tested_both t refl in
+          gives_promised (gives_of (call_goes t (λ E q. a q E >>= given_back Γ) refl d p k) (P E q (decode_holds Γ locals (value s) E d) p))

@@ -4,23 +4,23 @@ use mathlib.Core.Bool.{true}
 use mathlib.Core.List.{List, [], ◌∷◌, map}
 use Prim.Native.Nat.{ℕ, zero, suc, ◌<◌}
 use lib.ListN.{length}
+use Rattle.std.specs.Prelude.{Ok, Err}
+use Rattle.refusal.specs.Refusal.{number}
+use Rattle.refusal.specs.declared.Refusal.{Refusal}
 use Rattle.model.specs.Answer.{Answer, done, ◌>>=◌}
 use Rattle.model.specs.Tree.{Tree, leaf, node, Forest, nil, more}
 use Rattle.model.specs.Typing.{Fits}
 use Rattle.model.specs.Place.{Elem, deref, field, downcast, index, Place, Spot, Statement, Fold, At, usable}
 use Rattle.model.specs.Walk.{nth, child, inside, enter, step, walk, folding, pick, project, projection, carry, carry_at, fitting}
-use Rattle.model.specs.Calls.{Recorded, nothing, fold, unfold_at, recorded_as, statement_at}
+use Rattle.model.specs.Calls.{statement_at}
 use Rattle.base.specs.Tests.{clash}
 use Rattle.base.specs.Answer.{split_answer, refusal, refusal_map, refusal_refused, accepted_value, good_at}
 use Rattle.laws.specs.Projected.{project_folds, project_accepted}
 use Rattle.laws.specs.Recorded.{numbered}
 use Rattle.walk.proofs.Frames.{put, nth_put}
-use Rattle.state.specs.Value.{state_in}
 use Rattle.state.specs.declared.nodes.State.{State}
-use Rattle.env.specs.declared.project.Projected.TheVariants.{Refused}
-use Rattle.env.specs.declared.project.Usage.{Usage}
-use Rattle.env.specs.declared.project.Outcome.TheVariants.{Fine, Refused as Denied}
-use Rattle.env.specs.Answers.{recorded, Projects, carrying, Moves}
+use Rattle.env.specs.declared.project.Use.{Use}
+use Rattle.env.specs.Answers.{usage, moved, Projects, carrying, Moves}
 use Rattle.env.proofs.Answered.{moves_refused, moves_done}
 use Rattle.env.proofs.Projecting.{with_these, project_at_put}
 
@@ -96,28 +96,20 @@ module _ (Γ : List ℕ) where
       rw (nth_put fits q.local known (walk Γ folding p), fold_project p x u, project_at_put fits q.local known p)
       (split_answer (project Γ p x) (λ n e. rw e) (λ r e. rw e (fits_alone (put q.local r.0 E) (map (numbered q.local) r.1))))
 
--- no record is a refusal
-recorded_fine : (x : Recorded) (n : ℕ) → recorded x ≡ Refused n → ⊥
-recorded_fine nothing n e = clash (cc)
-recorded_fine fold n e = clash (cc)
-recorded_fine (unfold_at k) n e = clash (cc)
-
-module _ {Γ locals : List ℕ} {s : State} {E : Forest} (fits : Fits Γ locals E) (q : Spot) (known : q.local < length locals) (u : usable q.place ≡ true) {r : Usage}
-    {m : ℕ} (P : Projects Γ locals s m (projection Γ q E) r) where
-  -- the projection is refused, and so is the fold: the arrays are as they were
-  pub fold_refused : {n : ℕ} → r.answer ≡ Refused n
-      → Moves Γ locals s (carrying Γ locals Fold q E) (record { answer = Denied n; state = state_in r.state.forms r.state.whats s.nodes })
-  fold_refused {n} a =
+module _ {Γ locals : List ℕ} {s : State} {E : Forest} (fits : Fits Γ locals E) (q : Spot) (known : q.local < length locals) (u : usable q.place ≡ true) {m : ℕ} {r : State} where
+  -- the projection is refused, and so is the fold: the state is as it was
+  pub fold_refused : {n : Refusal} → Projects Γ locals s m (projection Γ q E) (usage (Err n) r) → Moves Γ locals s (carrying Γ locals Fold q E) (moved (Err n) r)
+  fold_refused {n} P =
       split_answer (projection Γ q E)
-      (λ m e.
-      let same : m ≡ n = cc P.answer in
-      subst (λ (t : State). Moves Γ locals s (carrying Γ locals Fold q E) (record { answer = Denied n; state = state_in t.forms t.whats s.nodes })) (sym (P.kept m e))
+      (λ k e.
+      let same : k ≡ number n = cc P.answer in
+      subst (λ (t : State). Moves Γ locals s (carrying Γ locals Fold q E) (moved (Err n) t)) (sym (P.kept k e))
       (moves_refused (fold_projection Γ locals fits q known u ∙ rw (e, same))))
-      (λ w e. absurd (recorded_fine (recorded_as w.1) n (cc P.answer)))
+      (λ w e. clash (cc P.answer))
 
   -- it is not, and leaves what the fold leaves
-  pub fold_carried : ((n : ℕ) → r.answer ≡ Refused n → ⊥) → Moves Γ locals s (carrying Γ locals Fold q E) (record { answer = Fine; state = r.state })
-  fold_carried a =
+  pub fold_carried : {a : Use} → Projects Γ locals s m (projection Γ q E) (usage (Ok a) r) → Moves Γ locals s (carrying Γ locals Fold q E) (moved (Ok tt) r)
+  fold_carried P =
       split_answer (projection Γ q E)
-      (λ m e. absurd (a m (cc P.answer)))
+      (λ k e. clash (cc P.answer))
       (λ w e. moves_done (fold_projection Γ locals fits q known u ∙ rw e) (P.moved w e))

@@ -1,12 +1,14 @@
 -- A walk that has ended in the tree of a local (`Sited`), and one step more there: what `open_nodes` asks for it, and what it gives.
 use mathlib.Core.Path.{◌≡◌, refl, sym, ◌∙◌, ap, subst}
-use mathlib.Core.Logic.{◌≢◌}
 use mathlib.Core.Bool.{true}
 use mathlib.Core.List.{List, ◌∷◌, ◌++◌}
 use Prim.Native.Nat.{ℕ, ◌+◌, ◌-◌, ◌*◌, ◌<◌, ◌≤◌}
 use native.Mathlib.Omega.{arith}
 use native.Mathlib.Decide.{dec_lt}
 use lib.ListN.{length, get_or}
+use Rattle.std.specs.Prelude.{Ok, Err, Option, Some}
+use Rattle.refusal.specs.Refusal.{number}
+use Rattle.refusal.specs.declared.Refusal.{Refusal}
 use Rattle.model.specs.Answer.{Answer, refused, done}
 use Rattle.model.specs.Tree.{Tree, leaf, Forest, sizes}
 use Rattle.model.specs.Typing.{Fits}
@@ -29,18 +31,18 @@ use Rattle.state.specs.Value.{value}
 use Rattle.state.specs.declared.nodes.State.{State}
 use Rattle.walk.specs.Way.{acts}
 use Rattle.walk.specs.Fresh.{folded, Bud, distance, grows, trail}
-use Rattle.walk.specs.Applied.{Encoded, tip, opening, Opens, Carried}
+use Rattle.walk.specs.Applied.{Encoded, element, Adds, tip, opening, Opens, Carried}
 use Rattle.walk.specs.declared.step.Fresh.{Fresh}
-use Rattle.walk.specs.declared.step.Opened.TheVariants.{To, Refused}
+use Rattle.walk.specs.declared.step.More.{More}
 use Rattle.walk.specs.declared.along.Walk.{Walk}
 use Rattle.walk.proofs.Ways.{length_route}
 use Rattle.walk.proofs.Places.{length_ops, length_args}
 use Rattle.walk.proofs.Sites.{bud_folded, sprung_to}
 use Rattle.walk.proofs.Ends.{site_stays, site_last, site_barred, acts_cast, acts_open}
-use Rattle.env.specs.declared.project.Outcome.TheVariants.{Fine}
 use Rattle.env.specs.declared.project.Moved.{Moved}
-use Rattle.env.specs.Answers.{last_step, carrying, outcome, Moves, Widens}
+use Rattle.env.specs.Answers.{moved, last_step, carrying, granted, Moves, Widens}
 use Rattle.env.specs.Given.{Sited}
+use Rattle.env.specs.There.{Staying}
 use Rattle.env.proofs.Limits.{Limited, spot_limited}
 use Rattle.env.proofs.Answered.{moves_done}
 use Rattle.env.proofs.Added.{Few, sprout_few}
@@ -89,9 +91,8 @@ module _ {Γ ops args : List ℕ} {s : State} {w : Walk} (h : Typed Γ) (d : Sit
     grafts_encoded = subst (Encoded s) G.was (holds_encoded d.holds)
 
     -- it can be carried out
-    pub sited_opens : {g : Fresh} {o a : ℕ} → (o ≡ 0 → w.fresh ≡ g) → (o ≢ 0 → grows Γ w.fresh (elem_of o a) ≡ To g) → s.nodes + g.added ≤ 512
-        → Opens Γ ops args s (ending w g) o a
-    sited_opens {g} e k r =
+    pub sited_opens : {g : Fresh} {m : Option More} → Adds Γ w.fresh m g → s.nodes + g.added ≤ 512 → Opens Γ ops args s (ending w g) m
+    sited_opens {g} a r =
         record {
           known = d.site.passing.midway.known;
           least = d.site.passing.most;
@@ -101,8 +102,7 @@ module _ {Γ ops args : List ℕ} {s : State} {w : Walk} (h : Typed Γ) (d : Sit
           plain = d.site.plain;
           before = w.fresh;
           leads = d.site.fresh;
-          none = e;
-          some = k;
+          adds = a;
           front = G.before;
           back = G.behind;
           coded = grafts_encoded;
@@ -111,7 +111,7 @@ module _ {Γ ops args : List ℕ} {s : State} {w : Walk} (h : Typed Γ) (d : Sit
         }
 
     -- and then the state after has the codes
-    pub carried_encoded : {g : Fresh} {o a : ℕ} {r : State} → cs ≡ trail Γ (folded w.typ 0) (opening ops args w) ++ tip Γ w.fresh o a → n ≡ g.added → Carried Γ ops args s (ending w g) o a r
+    pub carried_encoded : {g : Fresh} {m : Option More} {r : State} → cs ≡ trail Γ (folded w.typ 0) (opening ops args w) ++ tip Γ w.fresh m → n ≡ g.added → Carried Γ ops args s (ending w g) m r
         → Encoded r (codess Γ G.result)
     carried_encoded {r = r} ec en C =
         subst (Encoded r) (sym (G.is ∙ rw (ec, en))) (C.coded G.before G.behind w.fresh grafts_encoded G.place d.site.fresh)
@@ -159,52 +159,52 @@ module _ (Γ : List ℕ) where
   acts_levels (downcast v) n p l = cast_levels Γ v p l
   acts_levels index n p l = carry_levels Γ (record { verb = Unfold; place = p; told = dash }) l
 
-module _ {Γ ops args : List ℕ} {s : State} {w : Walk} (h : Typed Γ) (d : Sited Γ s ops args w) (z : get_or s.forms w.node 0 ≡ 0) (o a : ℕ) (stays : distance (elem_of o a) ≡ 0) where
+module _ {Γ ops args : List ℕ} {s : State} {w : Walk} (h : Typed Γ) (d : Sited Γ s ops args w) (z : get_or s.forms w.node 0 ≡ 0) (m : More) (stays : Staying m) where
   -- the walk's open nodes end at a folded one
   folded_here : d.site.passing.midway.tree ≡ leaf w.typ
   folded_here = coded_folded h.known d.site.passing.midway.here z
 
   -- the step is refused
-  pub grow_barred : {n : ℕ} → grows Γ w.fresh (elem_of o a) ≡ Refused n → last_step Γ (elem_of o a) d.spot d.state ≡ refused n
+  pub grow_barred : {n : Refusal} → grows Γ w.fresh (element m) ≡ Err n → last_step Γ (element m) d.spot d.state ≡ refused (number n)
   unfolding last_step
   grow_barred e =
-      rw (nth_refused d.holds.trees.fits d.spot.local d.known (walk Γ (acts Γ (elem_of o a)) d.spot.place) (site_barred h d.is d.site folded_here o a stays e))
+      rw (nth_refused d.holds.trees.fits d.spot.local d.known (walk Γ (acts Γ (element m)) d.spot.place) (site_barred h d.is d.site folded_here m stays e))
 
-  module _ (some : o ≢ 0) {g : Fresh} (e : grows Γ w.fresh (elem_of o a) ≡ To g) where
+  module _ {g : Fresh} (e : grows Γ w.fresh (element m) ≡ Ok g) where
     -- it leads to g
-    grow_grafts : Grafts Γ (acts Γ (elem_of o a)) d.spot.local d.spot.place d.state w.node
-        (trail Γ (folded w.typ 0) (opening ops args w) ++ tip Γ w.fresh o a) g.added
-    grow_grafts = among_grafted d.holds.trees.fits d.spot.local d.known (site_last h d.is d.site folded_here o a some stays e)
+    grow_grafts : Grafts Γ (acts Γ (element m)) d.spot.local d.spot.place d.state w.node
+        (trail Γ (folded w.typ 0) (opening ops args w) ++ tip Γ w.fresh (Some m)) g.added
+    grow_grafts = among_grafted d.holds.trees.fits d.spot.local d.known (site_last h d.is d.site folded_here m stays e)
 
     -- there is no room for it
-    pub grow_full : 512 < s.nodes + g.added → last_step Γ (elem_of o a) d.spot d.state ≡ refused 9
+    pub grow_full : 512 < s.nodes + g.added → last_step Γ (element m) d.spot d.state ≡ refused 9
     unfolding last_step
     grow_full l = rw grow_grafts.walks (fitting_full Γ grow_grafts.result (omega (arith, grafts_nodes h d grow_grafts)))
 
     module _ (room : s.nodes + g.added ≤ 512) where
       -- there is room
-      grow_fits : last_step Γ (elem_of o a) d.spot d.state ≡ done grow_grafts.result
+      grow_fits : last_step Γ (element m) d.spot d.state ≡ done grow_grafts.result
       unfolding last_step
       grow_fits = rw grow_grafts.walks (fitting_fits Γ grow_grafts.result (omega (arith, grafts_nodes h d grow_grafts)))
 
       -- a state that has its codes is held
-      grow_holds : unfold_ok (length d.locals) d.spot ≡ true → {r : State} → Carried Γ ops args s (ending w g) o a r → Holds Γ d.locals (value r) grow_grafts.result
+      grow_holds : unfold_ok (length d.locals) d.spot ≡ true → {r : State} → Carried Γ ops args s (ending w g) (Some m) r → Holds Γ d.locals (value r) grow_grafts.result
       unfolding unfold_ok
       grow_holds k C =
           let G = grow_grafts in
           let q : Spot = d.spot in
           let L : Limited 63 (length d.locals) q = spot_limited (length d.locals) q 63 k in
-          let f = walk Γ (acts Γ (elem_of o a)) q.place in
+          let f = walk Γ (acts Γ (element m)) q.place in
           encoded_holds (carried_encoded h d G refl refl C)
-          (good_at (nth_fit Γ (walk_fit Γ (acts_fit Γ (elem_of o a)) q.place) q.local d.holds.trees.fits) G.walks)
-          (good_at (nth_levels f (acts_levels Γ (elem_of o a) stays q.place L.near) q.local d.state d.holds.deep) G.walks)
+          (good_at (nth_fit Γ (walk_fit Γ (acts_fit Γ (element m)) q.place) q.local d.holds.trees.fits) G.walks)
+          (good_at (nth_levels f (acts_levels Γ (element m) stays q.place L.near) q.local d.state d.holds.deep) G.walks)
 
       -- it can be carried out, and is
-      pub grow_widens : unfold_ok (length d.locals) d.spot ≡ true → Widens Γ d.locals ops args s o a (last_step Γ (elem_of o a) d.spot d.state) (ending w g)
+      pub grow_widens : unfold_ok (length d.locals) d.spot ≡ true → Widens Γ d.locals ops args s m (last_step Γ (element m) d.spot d.state) (ending w g)
       grow_widens k =
           record {
-            opens = sited_opens h d grow_grafts (λ n. absurd (some n)) (λ n. e) room;
-            fine = ap outcome grow_fits;
+            opens = sited_opens h d grow_grafts e room;
+            fine = ap granted grow_fits;
             gives = λ r C. moves_done grow_fits (grow_holds k C);
           }
 
@@ -215,7 +215,7 @@ module _ {Γ ops args : List ℕ} {s : State} {w : Walk} (h : Typed Γ) (d : Sit
 
   -- there the state stays as it is
   pub stay_moves : acts Γ e d.site.passing.midway.tree ≡ done d.site.passing.midway.tree
-      → Moves Γ d.locals s (last_step Γ e d.spot d.state) (record { answer = Fine; state = s })
+      → Moves Γ d.locals s (last_step Γ e d.spot d.state) (moved (Ok tt) s)
   unfolding last_step
   stay_moves k = moves_done (rw (open_here.leads (acts Γ e), k, open_here.whole) (fitting_fits Γ d.state (holds_few d.holds))) d.holds
 

@@ -1,7 +1,7 @@
 -- The laws that the proofs of env share. In the order in which they build on each other:
 -- places within their limits, and the states and places that are given
 pub mod Limits
--- a walk, which is refused or has ended
+-- the walk of a place, and where it has ended
 pub mod Walked
 -- answers, by what model's are
 pub mod Answered

@@ -5,6 +5,7 @@ use mathlib.Core.List.{List, [], ◌∷◌, ◌++◌}
 use Prim.Native.Nat.{ℕ, ◌+◌, ◌-◌, ◌<◌, ◌≤◌}
 use native.Mathlib.Omega.{arith}
 use lib.ListN.{length, get_or, length-append}
+use Rattle.std.specs.Prelude.{Ok, None}
 use Rattle.model.specs.Answer.{refused, done, ◌>>=◌}
 use Rattle.model.specs.Tree.{Tree, leaf, Forest, sizes, type, unfolded}
 use Rattle.model.specs.State.{Code, codes, codess}
@@ -31,7 +32,9 @@ use Rattle.walk.specs.Applied.{Encoded, tip, opening, Opens, Carried, Folds, Fol
 use Rattle.walk.specs.declared.along.Walk.{Walk}
 use Rattle.walk.proofs.Ends.{site_changed, site_passed, site_stays, site_grafted}
 use Rattle.env.specs.declared.project.Projected.TheVariants.{Nothing, Fold as ToFold, Unfold as ToUnfold}
-use Rattle.env.specs.Answers.{Projects}
+use Rattle.env.specs.declared.project.Projected.{Projected}
+use Rattle.env.specs.declared.project.Use.{Use}
+use Rattle.env.specs.Answers.{usage, Projects}
 use Rattle.env.specs.Given.{Sited}
 use Rattle.env.proofs.Limits.{fold_walks, fold_usable, spot_limited}
 use Rattle.env.proofs.Answered.{projects_done}
@@ -60,16 +63,20 @@ module _ {Γ ops args : List ℕ} {s : State} {w : Walk} (h : Typed Γ) (d : Sit
   number_is : w.passed - 1 ≡ number
   number_is = omega (arith, site_passed h d.is d.site)
 
+  -- a use that records p, told with that number
+  use_is : {p r : Projected} → p ≡ r → ◌≡◌ {A = Use} (record { recorded = p; passed = w.passed - 1 }) (record { recorded = r; passed = number })
+  use_is e = rw (e, number_is)
+
   -- AN UNFOLD
 
   module _ (l : w.passed < w.walked) where
     -- what the walk opens
-    unfold_grafts : Grafts Γ done d.spot.local d.spot.place d.state w.node (trail Γ (folded w.typ 0) (opening ops args w) ++ tip Γ w.fresh 0 0) w.fresh.added
-    unfold_grafts = among_grafted d.holds.trees.fits d.spot.local d.known (site_grafted h d.is d.site (d.site.passing.folded l) 0)
+    unfold_grafts : Grafts Γ done d.spot.local d.spot.place d.state w.node (trail Γ (folded w.typ 0) (opening ops args w) ++ tip Γ w.fresh None) w.fresh.added
+    unfold_grafts = among_grafted d.holds.trees.fits d.spot.local d.known (site_grafted h d.is d.site (d.site.passing.folded l))
 
     -- it can be carried out
-    pub unfold_opens : s.nodes + w.fresh.added ≤ 512 → Opens Γ ops args s w 0 0
-    unfold_opens r = sited_opens h d unfold_grafts (λ e. refl) (λ n. absurd (n refl)) r
+    pub unfold_opens : s.nodes + w.fresh.added ≤ 512 → Opens Γ ops args s w None
+    unfold_opens r = sited_opens h d unfold_grafts refl r
 
     -- what is recorded
     unfold_is : projection Γ d.spot d.state ≡ fitting Γ unfold_grafts.result >>= with_these (numbered d.spot.local (record { verb = Unfold; place = base d.spot.place; told = number }) ∷ [])
@@ -91,10 +98,10 @@ module _ {Γ ops args : List ℕ} {s : State} {w : Walk} (h : Typed Γ) (d : Sit
     unfold_done m = unfold_is ∙ rw (fitting_fits Γ unfold_grafts.result (omega (arith, grafts_nodes h d unfold_grafts)))
 
     -- it is carried out
-    pub unfold_projects : s.nodes + w.fresh.added ≤ 512 → fold_ok (length d.locals) d.spot ≡ true → {r : State} → Carried Γ ops args s w 0 0 r
-        → Projects Γ d.locals s number (projection Γ d.spot d.state) (record { answer = ToUnfold (w.walked - 2); passed = w.passed - 1; state = r })
+    pub unfold_projects : s.nodes + w.fresh.added ≤ 512 → fold_ok (length d.locals) d.spot ≡ true → {r : State} → Carried Γ ops args s w None r
+        → Projects Γ d.locals s number (projection Γ d.spot d.state) (usage (Ok (record { recorded = ToUnfold (w.walked - 2); passed = w.passed - 1 })) r)
     unfolding recorded_as recorded_verb
-    unfold_projects m ok C = projects_done (unfold_done m) (ap ToUnfold (sym unfold_length)) number_is (used_holds ok (unfold_done m) (carried_encoded h d unfold_grafts refl refl C))
+    unfold_projects m ok C = projects_done (unfold_done m) (use_is (ap ToUnfold (sym unfold_length))) (used_holds ok (unfold_done m) (carried_encoded h d unfold_grafts refl refl C))
 
   -- A FOLD, OR NOTHING
 
@@ -163,10 +170,10 @@ module _ {Γ ops args : List ℕ} {s : State} {w : Walk} (h : Typed Γ) (d : Sit
 
       -- a fold
       pub fold_projects : fold_ok (length d.locals) d.spot ≡ true → {r : State} → Folded Γ s w.node w.typ r
-          → Projects Γ d.locals s number (projection Γ d.spot d.state) (record { answer = ToFold; passed = w.passed - 1; state = r })
+          → Projects Γ d.locals s number (projection Γ d.spot d.state) (usage (Ok (record { recorded = ToFold; passed = w.passed - 1 })) r)
       unfolding recorded_as recorded_verb
       fold_projects ok {r} F =
-          projects_done fold_done refl number_is (used_holds ok fold_done (subst (Encoded r) (sym folded_codes)
+          projects_done fold_done (use_is refl) (used_holds ok fold_done (subst (Encoded r) (sym folded_codes)
           (F.coded used_stands.frame.before used_stands.frame.behind reached_tree d.site.passing.midway.here used_encoded used_stands.place)))
 
     module _ (z : get_or s.forms w.node 0 ≡ 0) where
@@ -179,6 +186,6 @@ module _ {Γ ops args : List ℕ} {s : State} {w : Walk} (h : Typed Γ) (d : Sit
           e ∙ rw (fitting_fits Γ d.state (holds_few d.holds))
 
       -- nothing
-      pub nothing_projects : Projects Γ d.locals s number (projection Γ d.spot d.state) (record { answer = Nothing; passed = w.passed - 1; state = s })
+      pub nothing_projects : Projects Γ d.locals s number (projection Γ d.spot d.state) (usage (Ok (record { recorded = Nothing; passed = w.passed - 1 })) s)
       unfolding recorded_as
-      nothing_projects = projects_done {w = (d.state, [])} nothing_done refl number_is d.holds
+      nothing_projects = projects_done {w = (d.state, [])} nothing_done (use_is refl) d.holds

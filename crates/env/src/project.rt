@@ -1,164 +1,144 @@
-// The walk of a place, `Env::projection`, and a fold carried out, in the lent arrays of a state that passes.
+// The walk of a place, `Env::projection`, and a fold carried out, in a state that passes.
 ghost use Rattle.std.specs.Prelude.{length};
-ghost use Rattle.moments.specs.Lent.{after};
 ghost use Rattle.model.specs.Place.{Fold, spot_ok, used_ok, fold_ok};
 ghost use Rattle.type_record.specs.Sizes.{Ready};
-ghost use Rattle.state.specs.Value.{state_in};
-ghost use Rattle.env.specs.Given.{Asked, AskedIn, Sited};
-ghost use Rattle.env.specs.Answers.{usage_in, moved_in};
+ghost use Rattle.env.specs.Given.{Asked, Sited};
+ghost use Rattle.env.specs.Answers.{usage, moved};
 ghost use Rattle.env.specs.There.{ProjectsThere, CarriesThere, WalksThere, SubjectThere, ProjectsAt};
 
+use refusal::Refusal;
 use state::nodes::{State, local_at};
-use type_record::record::{kind_of, wide};
-use walk::along::{Walk, Walked, refusal, walk_along};
+use type_record::kinds::Kind;
+use type_record::record::kind_at;
+use walk::along::{Walk, walk_along};
 use walk::apply::{fold_at, open_nodes};
 
-// What a use of a place records: nothing, a fold of the place, an unfold of its first elements; or its refusal.
-#[derive(Drop)]
+// A state has 512 nodes at the most.
+pub const MOST_NODES: usize = 512;
+
+// What a use of a place records: nothing, a fold of the place, an unfold of its first elements.
+#[derive(Clone, Copy)]
 pub enum Projected {
     Nothing,
     Fold,
     Unfold(usize),
-    Refused(u32),
 }
 
-// A use in lent arrays, with the nodes that they have then; and of a state by value. passed: how many elements the walk had passed before the
-// step that first opened a node, or all that it walked; 0 with a refusal.
-#[derive(Drop)]
+// A use. passed: how many elements the walk had passed before the step that first opened a node, or all that it walked.
+#[derive(Clone, Copy)]
 pub struct Use {
-    pub answer: Projected,
+    pub recorded: Projected,
     pub passed: usize,
-    pub nodes: usize,
 }
 
+// The answer of a use, with the state after it, which a refusal gives back as it came.
 #[derive(Drop)]
 pub struct Usage {
-    pub answer: Projected,
-    pub passed: usize,
+    pub answer: Result<Use, Refusal>,
     pub state: State,
 }
 
-// The answer of a call that gives a state; with the nodes that lent arrays have then, and by value.
-#[derive(Drop)]
-pub enum Outcome {
-    Fine,
-    Refused(u32),
-}
-
-#[derive(Drop)]
-pub struct Change {
-    pub answer: Outcome,
-    pub nodes: usize,
-}
-
+// The answer of a call that gives a state alone, with that state.
 #[derive(Drop)]
 pub struct Moved {
-    pub answer: Outcome,
+    pub answer: Result<(), Refusal>,
     pub state: State,
 }
 
 // What a match is on: an enum, or an array's element.
-#[derive(Drop)]
+#[derive(Clone, Copy)]
 pub enum On {
     Enum(usize),
     Element,
-    Refused(u32),
 }
 
 // `Env::ensure_unfolded`: the walk of the place in its local's tree. What has to be opened on the way is found here; `open_nodes` opens it.
-pub fn ensure_unfolded<'a>(
+pub fn ensure_unfolded(
     types: &[u32],
     offs: &[u32],
     locals: &[u32],
-    forms: &'a [u16],
-    whats: &'a [u16],
+    s: &State,
     ops: &[u32],
     args: &[u32],
-) -> Walked
-    requires { AskedIn types.now offs.now locals.now forms.now whats.now ops.now args.now (spot_ok 64 (length locals.now)) }
-    ensures { WalksThere types.now locals.now forms.now whats.now ops.now args.now result }
+) -> Result<Walk, Refusal>
+    requires { Asked types.now offs.now locals.now s.now ops.now args.now (spot_ok 64 (length locals.now)) }
+    ensures { WalksThere types.now locals.now s.now ops.now args.now result }
 {
-    let l = wide(args[0]);
-    let i = local_at(types, offs, forms, whats, locals, l);
-    walk_along(types, offs, forms, whats, ops, args, i, wide(locals[l]))
+    let l = args[0] as usize;
+    let i = local_at(types, offs, &s.forms, &s.whats, locals, l);
+    walk_along(
+        types,
+        offs,
+        &s.forms,
+        &s.whats,
+        ops,
+        args,
+        i,
+        locals[l] as usize,
+    )
 }
 
 // What a match on the place is on: "a match first walks its place, for its type alone". A walk that ends before an index ends at an
 // array, so the place is an element of it; any other place must be an enum.
-pub fn subject_at<'a>(
+pub fn subject_at(
     types: &[u32],
     offs: &[u32],
     locals: &[u32],
-    forms: &'a [u16],
-    whats: &'a [u16],
+    s: &State,
     ops: &[u32],
     args: &[u32],
-) -> On
-    requires { AskedIn types.now offs.now locals.now forms.now whats.now ops.now args.now (used_ok (length locals.now)) }
-    ensures { SubjectThere types.now locals.now forms.now whats.now ops.now args.now result }
+) -> Result<On, Refusal>
+    requires { Asked types.now offs.now locals.now s.now ops.now args.now (used_ok (length locals.now)) }
+    ensures { SubjectThere types.now locals.now s.now ops.now args.now result }
 {
-    let a = ensure_unfolded(types, offs, locals, forms, whats, ops, args);
-    let Walked::To(w) = a else {
-        return On::Refused(refusal(a));
-    };
-    if w.walked < ops.len() {
-        return On::Element;
+    let w = ensure_unfolded(types, offs, locals, s, ops, args)?;
+    let early = w.walked < ops.len();
+    if early {
+        return Ok(On::Element);
     }
-    let f = w.fresh;
-    let t = f.typ;
-    if kind_of(types, t) == 7 {
-        On::Enum(t)
-    } else {
-        On::Refused(5)
+    let t = w.fresh.typ;
+    match kind_at(types, t) {
+        Kind::Enum => Ok(On::Enum(t)),
+        _ => Err(Refusal::WrongStep),
     }
 }
 
-// The place is used, and its walk has ended at w: what is to be recorded, and the nodes after.
+// The place is used, and its walk has ended at w: what is to be recorded.
 fn used_at(
     types: &[u32],
     offs: &[u32],
-    forms: &mut [u16],
-    whats: &mut [u16],
-    nodes: usize,
+    s: &mut State,
     w: Walk,
     ops: &[u32],
     args: &[u32],
-) -> Use
+) -> Result<Use, Refusal>
     requires ready { Ready types.now offs.now }
-    requires sited { Sited types.now (state_in forms.old whats.old nodes) ops.now args.now w }
-    ensures { ProjectsAt types.now (state_in forms.old whats.old nodes) ops.now args.now w (usage_in result forms.new whats.new) }
+    requires sited { Sited types.now s.old ops.now args.now w }
+    ensures { ProjectsAt types.now s.old ops.now args.now w (usage result s.new) }
 {
     let passed = w.passed - 1;
-    let f = w.fresh;
     if w.passed < w.walked {
-        if 512 < nodes + f.added {
-            return Use {
-                answer: Projected::Refused(9),
-                passed: 0,
-                nodes,
-            };
+        if MOST_NODES < s.nodes + w.fresh.added {
+            return Err(Refusal::StateFull);
         }
-        let n = open_nodes(types, offs, forms, whats, nodes, w, ops, args, 0, 0);
-        return Use {
-            answer: Projected::Unfold(w.walked - 2),
+        open_nodes(types, offs, s, w, ops, args, None);
+        return Ok(Use {
+            recorded: Projected::Unfold(w.walked - 2),
             passed,
-            nodes: n,
-        };
+        });
     }
-    let i = w.node;
-    if forms[i] != 0 {
-        let n = fold_at(types, offs, forms, whats, nodes, i, w.typ);
-        return Use {
-            answer: Projected::Fold,
+    let open = s.forms[w.node] != 0;
+    if open {
+        fold_at(types, offs, s, w.node, w.typ);
+        return Ok(Use {
+            recorded: Projected::Fold,
             passed,
-            nodes: n,
-        };
+        });
     }
-    Use {
-        answer: Projected::Nothing,
+    Ok(Use {
+        recorded: Projected::Nothing,
         passed,
-        nodes,
-    }
+    })
 }
 
 // A place of a fold is used.
@@ -166,67 +146,44 @@ fn used(
     types: &[u32],
     offs: &[u32],
     locals: &[u32],
-    forms: &mut [u16],
-    whats: &mut [u16],
-    nodes: usize,
+    s: &mut State,
     ops: &[u32],
     args: &[u32],
-) -> Use
-    requires { Asked types.now offs.now locals.now (state_in forms.old whats.old nodes) ops.now args.now (fold_ok (length locals.now)) }
-    ensures { ProjectsThere types.now locals.now (state_in forms.old whats.old nodes) ops.now args.now (usage_in result forms.new whats.new) }
+) -> Result<Use, Refusal>
+    requires { Asked types.now offs.now locals.now s.old ops.now args.now (fold_ok (length locals.now)) }
+    ensures { ProjectsThere types.now locals.now s.old ops.now args.now (usage result s.new) }
 {
-    let a = ensure_unfolded(types, offs, locals, forms, whats, ops, args);
-    let Walked::To(w) = a else {
-        return Use {
-            answer: Projected::Refused(refusal(a)),
-            passed: 0,
-            nodes,
-        };
-    };
-    used_at(types, offs, forms, whats, nodes, w, ops, args)
+    let w = ensure_unfolded(types, offs, locals, s, ops, args)?;
+    used_at(types, offs, s, w, ops, args)
 }
 
-// The place is used: what is to be recorded, and the nodes after.
+// The place is used: what is to be recorded.
 pub fn projection(
     types: &[u32],
     offs: &[u32],
     locals: &[u32],
-    forms: &mut [u16],
-    whats: &mut [u16],
-    nodes: usize,
+    s: &mut State,
     ops: &[u32],
     args: &[u32],
-) -> Use
-    requires { Asked types.now offs.now locals.now (state_in forms.old whats.old nodes) ops.now args.now (used_ok (length locals.now)) }
-    ensures { ProjectsThere types.now locals.now (state_in forms.old whats.old nodes) ops.now args.now (usage_in result forms.new whats.new) }
+) -> Result<Use, Refusal>
+    requires { Asked types.now offs.now locals.now s.old ops.now args.now (used_ok (length locals.now)) }
+    ensures { ProjectsThere types.now locals.now s.old ops.now args.now (usage result s.new) }
 {
-    used(types, offs, locals, forms, whats, nodes, ops, args)
+    used(types, offs, locals, s, ops, args)
 }
 
-// A fold carried out: walk, then fold the node.
+// A fold carried out: the place is used, and what that records is dropped.
 pub fn fold(
     types: &[u32],
     offs: &[u32],
     locals: &[u32],
-    forms: &mut [u16],
-    whats: &mut [u16],
-    nodes: usize,
+    s: &mut State,
     ops: &[u32],
     args: &[u32],
-) -> Change
-    requires { Asked types.now offs.now locals.now (state_in forms.old whats.old nodes) ops.now args.now (fold_ok (length locals.now)) }
-    ensures { CarriesThere types.now locals.now (state_in forms.old whats.old nodes) ops.now args.now Fold (moved_in result forms.new whats.new) }
+) -> Result<(), Refusal>
+    requires { Asked types.now offs.now locals.now s.old ops.now args.now (fold_ok (length locals.now)) }
+    ensures { CarriesThere types.now locals.now s.old ops.now args.now Fold (moved result s.new) }
 {
-    let p = used(types, offs, locals, forms, whats, nodes, ops, args);
-    let a = p.answer;
-    match a {
-        Projected::Refused(n) => Change {
-            answer: Outcome::Refused(n),
-            nodes,
-        },
-        _ => Change {
-            answer: Outcome::Fine,
-            nodes: p.nodes,
-        },
-    }
+    used(types, offs, locals, s, ops, args)?;
+    Ok(())
 }

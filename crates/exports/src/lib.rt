@@ -10,13 +10,25 @@ ghost use Rattle.model.specs.Told.{number_ok, Numbered};
 ghost use Rattle.model.specs.Merge.{record_in, Passes, Links};
 ghost use Rattle.model.specs.Promised.{OneOf, whole_numbers, statement_numbers, merge_numbers, Answered};
 ghost use Rattle.model.specs.Ghosts.{ghosts};
+ghost use Rattle.refusal.specs.Refusal.{code};
 ghost use Rattle.answer.specs.Said.{Printed};
 ghost use Rattle.exports.specs.Answers.{Exported, ExportedItems, ExportedMerged, ExportedCrate, RefusalIn};
 
-use assign::{Items, statement_items};
-use fold_unfold::{Ghosts, ghost_statements};
-use merge::{Merged, merge_types};
-use whole_crate::{Crate, crate_statements};
+use assign::statement_items;
+use fold_unfold::ghost_statements;
+use merge::merge_types;
+use refusal::Refusal;
+use whole_crate::crate_statements;
+
+// 0, or the refusal's number.
+fn code<T: Drop>(r: Result<T, Refusal>) -> u32
+    ensures { result ≡ code r }
+{
+    match r {
+        Ok(_) => 0,
+        Err(e) => u32::from(e),
+    }
+}
 
 // 0, or the refusal. Accepted: the counts of statements and entries are the first two words of out, and told has a number for each statement. A
 // refusal leaves zeros in all that was lent.
@@ -35,11 +47,7 @@ pub extern "C" fn exports_ghost_statements(
     ensures small { (i : ℕ) → number_ok (word told.new i) ≡ true }
     ensures numbered { OneOf (0 ∷ whole_numbers) result }
 {
-    let g = ghost_statements(types, fun, forms, whats, out, told);
-    match g {
-        Ghosts::Refused(n) => n,
-        Ghosts::Done { .. } => 0,
-    }
+    code(ghost_statements(types, fun, forms, whats, out, told))
 }
 
 // 0, or the refusal's number and 256 times the function's position. Accepted: the statement records of the functions one after another.
@@ -56,10 +64,9 @@ pub extern "C" fn exports_crate_statements(
     ensures replayed { result ≡ 0 → ReplayedEach types.now (records (word words.now 0) (drop 1 words.now)) out.new }
     ensures numbered { result ≢ 0 → RefusalIn words.now result }
 {
-    let g = crate_statements(types, words, forms, whats, out);
-    match g {
-        Crate::Refused { number, position } => number + 256 * position,
-        Crate::Done => 0,
+    match crate_statements(types, words, forms, whats, out) {
+        Ok(()) => 0,
+        Err(e) => u32::from(e.refusal) + 256 * e.position,
     }
 }
 
@@ -78,11 +85,7 @@ pub extern "C" fn exports_statement_items(list: &[u32], out: &mut [u32]) -> u32
     ensures exported_items { ExportedItems list.now (length out.old) out.new result }
     ensures numbered { OneOf (0 ∷ statement_numbers) result }
 {
-    let g = statement_items(list, out);
-    match g {
-        Items::Refused(n) => n,
-        Items::Done(_) => 0,
-    }
+    code(statement_items(list, out))
 }
 
 // Two type records as one: 0, or the refusal. Accepted: the merged record, then zeros; its sizes are its first two words. A refusal leaves zeros.
@@ -93,9 +96,5 @@ pub extern "C" fn exports_merge_types(first: &[u32], second: &[u32], out: &mut [
     ensures passes { result ≡ 0 → Passes out.new }
     ensures links { result ≡ 0 → Links first.now second.now (record_in out.new) }
 {
-    let g = merge_types(first, second, out);
-    match g {
-        Merged::Refused(n) => n,
-        Merged::Done(_) => 0,
-    }
+    code(merge_types(first, second, out))
 }

@@ -5,6 +5,7 @@ use mathlib.Core.Bool.{true, false}
 use mathlib.Core.List.{List}
 use mathlib.Core.Option.{Option}
 use Prim.Native.Nat.{ℕ}
+use Rattle.std.specs.Prelude.{Result, Ok, Err}
 use lib.ListN.{length, replicate}
 use Rattle.model.specs.Answer.{refused, done, ◌>>=◌}
 use Rattle.model.specs.Tree.{Forest}
@@ -17,11 +18,10 @@ use Rattle.base.specs.Tests.{clash}
 use Rattle.base.specs.Answer.{split_answer, then_done}
 use Rattle.demand.specs.Whole.{Passed}
 use Rattle.demand.specs.Refused.{passes_refuse}
+use Rattle.refusal.specs.declared.Refusal.{Refusal}
 use Rattle.state.specs.Given.{Accepted}
 use Rattle.statements.specs.declared.Out.{Out}
 use Rattle.queue.specs.Bits.{no_bits}
-use Rattle.arrival.specs.declared.jump.Visit.{Visit}
-use Rattle.arrival.specs.declared.jump.Visit.TheVariants.{Over, Refused as Stopped}
 use Rattle.arrival.specs.Memory.{Memory, with_store, with_log}
 use Rattle.arrival.specs.Shares.{arrays, Remembers}
 use Rattle.fold_unfold.specs.Answers.{Analysed}
@@ -90,10 +90,10 @@ pub record Half (Γ fn kept fs ws : List ℕ) : Type 0 where
   pub inferred : Inferred Γ fn memory.kept
   pub remembers : Remembers Γ fn (again memory.kept) (arrays kept (replicate 256 0) no_bits fs ws)
 
-module _ {Γ fn kept fs ws out kept' fs' ws' out' : List ℕ} {v : Visit} (E : Ends Γ fn false kept fs ws out (pass Γ fn false blank) kept' fs' ws' out' v) where
+module _ {Γ fn kept fs ws out kept' fs' ws' out' : List ℕ} where
   -- the first pass is refused
-  pub first_stops : {n : ℕ} → v ≡ Stopped n → Analysed Γ fn fs ws out fs' ws' out' v
-  first_stops e = split_answer (pass Γ fn false blank)
+  pub first_stops : {k : Refusal} → Ends Γ fn false kept fs ws out (pass Γ fn false blank) kept' fs' ws' out' (Err k) → Analysed Γ fn fs ws out fs' ws' out' (Err k)
+  first_stops E = split_answer (pass Γ fn false blank)
       (λ k p. let q = first_refused Γ fn k p in record {
         same_forms = E.same_forms;
         same_whats = E.same_whats;
@@ -106,8 +106,8 @@ module _ {Γ fn kept fs ws out kept' fs' ws' out' : List ℕ} {v : Visit} (E : E
       (λ m p. let o = (E.over m p).3 in clash (cc))
 
   -- it is not
-  pub first_goes : {o : Out} → v ≡ Over o → Half Γ fn kept' fs' ws'
-  first_goes e = split_answer (pass Γ fn false blank)
+  pub first_goes : {o : Out} → Ends Γ fn false kept fs ws out (pass Γ fn false blank) kept' fs' ws' out' (Ok o) → Half Γ fn kept' fs' ws'
+  first_goes E = split_answer (pass Γ fn false blank)
       (λ k p. let d = E.denied k p in clash (cc))
       (λ m p. record { memory = m; inferred = first_done Γ fn m p; remembers = again_remembered (E.over m p).4 })
 
@@ -117,7 +117,7 @@ module _ {Γ fn kept fs ws : List ℕ} (H : Half Γ fn kept fs ws) where
   second_begins P = record { memory = again H.memory.kept; is = H.remembers; starts = (H.memory.kept, refl, H.inferred); goes = second_sound P H.inferred }
 
   -- and ends
-  pub second_ends : {out kept' fs' ws' out' fs₀ ws₀ out₀ : List ℕ} {v : Visit}
+  pub second_ends : {out kept' fs' ws' out' fs₀ ws₀ out₀ : List ℕ} {v : Result Out Refusal}
       → Ends Γ fn true kept fs ws out (pass Γ fn true (again H.memory.kept)) kept' fs' ws' out' v
       → length fs ≡ length fs₀ → length ws ≡ length ws₀ → length out ≡ length out₀ → Analysed Γ fn fs₀ ws₀ out₀ fs' ws' out' v
   second_ends E lf lw lo =

@@ -2,8 +2,9 @@
 use mathlib.Core.Path.{◌≡◌, refl, sym, ap, ◌∙◌, subst}
 use mathlib.Core.Bool.{Bool, true, false}
 use mathlib.Core.List.{List}
-use mathlib.Core.Option.{Option, none, some}
+use mathlib.Core.Option.{none, some}
 use Prim.Native.Nat.{ℕ, ◌<◌}
+use Rattle.std.specs.Prelude.{Option, Some, None, Result, Ok, Err}
 use native.Mathlib.Omega.{arith}
 use lib.ListN.{length}
 use Rattle.model.specs.Answer.{Answer, done, ◌>>=◌}
@@ -17,34 +18,22 @@ use Rattle.demand.specs.Whole.{Passed}
 use Rattle.mir.specs.Sizes.{Formed}
 use Rattle.blocks.proofs.Spots.{formed_accepted}
 use Rattle.statements.specs.declared.Out.{Out}
-use Rattle.queue.specs.Popped.{answered, without, Pops, Popping}
-use Rattle.queue.specs.declared.Popped.{Popped}
-use Rattle.queue.specs.declared.Popped.TheVariants.{Block, Empty}
+use Rattle.refusal.specs.Refusal.{found}
+use Rattle.refusal.specs.declared.Refusal.{Refusal}
+use Rattle.queue.specs.Popped.{without, Pops, Popping}
 use Rattle.queue.proofs.Waiting.{facts_ranking}
 use Rattle.arrival.specs.Memory.{Memory, popped, enters}
 use Rattle.arrival.specs.Shares.{waits_in, Arrays, arrays, Alike, Remembers}
 use Rattle.arrival.specs.Visits.{Spoken, Visits}
-use Rattle.arrival.specs.declared.jump.Visit.{Visit}
-use Rattle.arrival.specs.declared.jump.Visit.TheVariants.{Over, Refused}
 use Rattle.fold_unfold.specs.Runs.{rest, Inverted, Ends}
 use Rattle.fold_unfold.proofs.Rounds.{Steady, told, Turned, rests}
-use Rattle.fold_unfold.proofs.Weight.{weight, weight_is, height}
+use Rattle.fold_unfold.proofs.Weight.{weight, weight_is}
 use Rattle.visit.proofs.Entering.{visits_later}
 use Rattle.fold_unfold.proofs.Changed.{remembers_told}
 
 -- THE NEXT BLOCK
 
--- none is popped: there is none
-answered_none : (o : Option ℕ) → answered o ≡ Empty → o ≡ none
-answered_none none e = refl
-answered_none (some b) e = clash (cc)
-
--- one is popped: it is the next
-answered_some : (o : Option ℕ) {b : ℕ} → answered o ≡ Block b → o ≡ some b
-answered_some none e = clash (cc)
-answered_some (some c) e = cc
-
-module _ {Γ fn blocks : List ℕ} {m : Memory} {a : Arrays} {n : ℕ} (waits' : List ℕ) {r : Popped}
+module _ {Γ fn blocks : List ℕ} {m : Memory} {a : Arrays} {n : ℕ} (waits' : List ℕ) {r : Option ℕ}
     (F : Formed fn) (I : Inverted fn blocks) (R : Remembers Γ fn m a) (e : n ≡ nblocks fn) (P : Popping blocks n a.waits waits' r) where
   -- by the function's ranks
   pops_ranked : Pops (rank fn) (nblocks fn) (waits_in fn a.waits) (waits_in fn waits') r
@@ -55,13 +44,13 @@ module _ {Γ fn blocks : List ℕ} {m : Memory} {a : Arrays} {n : ℕ} (waits' :
   next_is = lowest_same (rank fn) (waits_in fn a.waits) m.waits (nblocks fn) (λ b l. sym (R.waits b l))
 
   -- nothing waits
-  pub pops_none : r ≡ Empty → lowest (rank fn) m.waits (nblocks fn) ≡ none
-  pops_none d = sym next_is ∙ answered_none _ (sym pops_ranked.answer ∙ d)
+  pub pops_none : r ≡ None → lowest (rank fn) m.waits (nblocks fn) ≡ none
+  pops_none d = sym next_is ∙ sym pops_ranked.answer ∙ ap (found {A = ℕ}) d
 
   -- the block b is next, and waits no more
-  pub pops_block : {b : ℕ} → r ≡ Block b → (lowest (rank fn) m.waits (nblocks fn) ≡ some b) × (waits_in fn waits' ≡ put (waits_in fn a.waits) b false)
+  pub pops_block : {b : ℕ} → r ≡ Some b → (lowest (rank fn) m.waits (nblocks fn) ≡ some b) × (waits_in fn waits' ≡ put (waits_in fn a.waits) b false)
   pops_block d =
-      let k = answered_some _ (sym pops_ranked.answer ∙ d) in
+      let k = sym pops_ranked.answer ∙ ap (found {A = ℕ}) d in
       (sym next_is ∙ k, pops_ranked.rest ∙ ap (without (waits_in fn a.waits)) k)
 
 -- BETWEEN TWO TURNS
@@ -69,7 +58,7 @@ module _ {Γ fn blocks : List ℕ} {m : Memory} {a : Arrays} {n : ℕ} (waits' :
 -- from the arrays x and the buffer out; a: what the whole pass answers
 module _ (Γ fn : List ℕ) (recording : Bool) (x : Arrays) (out : List ℕ) (a : Answer Memory) where
   -- the last visit answered v
-  pub record Going (y : Arrays) (out' : List ℕ) (v : Visit) : Type 0 where
+  pub record Going (y : Arrays) (out' : List ℕ) (v : Result Out Refusal) : Type 0 where
     pub left : Answer Memory
     pub goes : a ≡ left >>= λ m. rest Γ fn recording (told recording m)
     pub visits : Visits Γ fn recording x out left y out' v
@@ -86,13 +75,13 @@ module _ (Γ fn : List ℕ) (recording : Bool) (x : Arrays) (out : List ℕ) (a 
     pub same : length out' ≡ length out
 
   -- what outlives the pass
-  abbrev pub Ended : Arrays → List ℕ → Visit → Type 0
+  abbrev pub Ended : Arrays → List ℕ → Result Out Refusal → Type 0
   Ended y out' v = Ends Γ fn recording x.kept x.forms x.whats out a y.kept y.forms y.whats out' v
 
 module _ {Γ fn : List ℕ} {recording : Bool} {x : Arrays} {out : List ℕ} {a : Answer Memory} {y : Arrays} {out' : List ℕ} where
   -- it was not refused
-  pub going_over : {v : Visit} {o : Out} → Going Γ fn recording x out a y out' v → v ≡ Over o → Stands Γ fn recording x out a y out' o
-  going_over {o} G e = split_answer G.left
+  pub going_over : {o : Out} → Going Γ fn recording x out a y out' (Ok o) → Stands Γ fn recording x out a y out' o
+  going_over {o} G = split_answer G.left
       (λ n d. let q = G.visits.denied n d in clash (cc))
       (λ m d.
       let (p, z, R, S) = G.visits.over m d in
@@ -108,8 +97,8 @@ module _ {Γ fn : List ℕ} {recording : Bool} {x : Arrays} {out : List ℕ} {a 
       })
 
   -- it was: so is the pass
-  pub going_refused : {v : Visit} {n : ℕ} → Going Γ fn recording x out a y out' v → v ≡ Refused n → Ended Γ fn recording x out a y out' v
-  going_refused {v} {n} G e = split_answer G.left
+  pub going_refused : {k : Refusal} → Going Γ fn recording x out a y out' (Err k) → Ended Γ fn recording x out a y out' (Err k)
+  going_refused G = split_answer G.left
       (λ k d.
       let q = G.visits.denied k d in
       record {
@@ -129,7 +118,7 @@ module _ {Γ fn : List ℕ} {recording : Bool} {x : Arrays} {out : List ℕ} {a 
     spoken_told true m s = s
 
     -- nothing waits: the pass is over
-    pub stands_rests : lowest (rank fn) A.memory.waits (nblocks fn) ≡ none → Ended Γ fn recording x out a y out' (Over o)
+    pub stands_rests : lowest (rank fn) A.memory.waits (nblocks fn) ≡ none → Ended Γ fn recording x out a y out' (Ok o)
     stands_rests e =
         let m = A.memory in
         let k = rests H recording m A.steady e in
@@ -145,7 +134,7 @@ module _ {Γ fn : List ℕ} {recording : Bool} {x : Arrays} {out : List ℕ} {a 
               (o, v, y.waits, refl, rw z at R, rw z at (spoken_told recording m A.spoken));
         }
 
-  module _ {o : Out} (A : Stands Γ fn recording x out a y out' o) {b : ℕ} (T : Turned Γ fn recording A.memory b) {w : List ℕ} {z : Arrays} {out'' : List ℕ} {v : Visit}
+  module _ {o : Out} (A : Stands Γ fn recording x out a y out' o) {b : ℕ} (T : Turned Γ fn recording A.memory b) {w : List ℕ} {z : Arrays} {out'' : List ℕ} {v : Result Out Refusal}
       (X : Visits Γ fn recording (arrays y.kept y.visited w y.forms y.whats) out'
       (enters Γ fn recording (nblocks fn) b T.state (popped b A.memory)) z out'' v) where
     -- a turn
@@ -158,14 +147,13 @@ module _ {Γ fn : List ℕ} {recording : Bool} {x : Arrays} {out : List ℕ} {a 
     }
 
 -- after a turn the number is less
-pub stands_less : {Γ fn : List ℕ} {recording : Bool} {x : Arrays} {out : List ℕ} {a : Answer Memory} {y : Arrays} {out' : List ℕ} {o : Out} → Known Γ
-    → (A : Stands Γ fn recording x out a y out' o) {b : ℕ} (T : Turned Γ fn recording A.memory b) {w z : Arrays} {out'' : List ℕ} (v : Visit)
-    → Visits Γ fn recording w out' (enters Γ fn recording (nblocks fn) b T.state (popped b A.memory)) z out'' v
-    → height v (weight Γ fn z recording) < height (Over o) (weight Γ fn y recording)
-stands_less {Γ} {fn} {recording} {y} known A {b} T {z} (Over q) X =
+pub stands_less : {Γ fn : List ℕ} {recording : Bool} {x : Arrays} {out : List ℕ} {a : Answer Memory} {y : Arrays} {out' : List ℕ} {o q : Out} → Known Γ
+    → (A : Stands Γ fn recording x out a y out' o) {b : ℕ} (T : Turned Γ fn recording A.memory b) {w z : Arrays} {out'' : List ℕ}
+    → Visits Γ fn recording w out' (enters Γ fn recording (nblocks fn) b T.state (popped b A.memory)) z out'' (Ok q)
+    → weight Γ fn z recording < weight Γ fn y recording
+stands_less {Γ} {fn} {recording} known A {b} T X =
     split_answer (enters Γ fn recording (nblocks fn) b T.state (popped b A.memory))
     (λ n d. let i = X.denied n d in clash (cc))
     (λ t d.
     let (p, i, R, S) = X.over t d in
     omega (arith, weight_is known R recording, weight_is known A.remembers recording, (T.less t d).1))
-stands_less known A T (Refused n) X = omega arith

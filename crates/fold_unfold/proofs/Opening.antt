@@ -3,6 +3,7 @@ use mathlib.Core.Path.{◌≡◌, refl, sym, ap, ◌∙◌}
 use mathlib.Core.Bool.{Bool, true, false}
 use mathlib.Core.List.{List, [], ◌∷◌, ◌++◌, map}
 use Prim.Native.Nat.{ℕ, ◌+◌, ◌-◌, ◌≤◌}
+use Rattle.std.specs.Prelude.{Ok, Err}
 use native.Mathlib.Nat.{zero-add}
 use native.Mathlib.Omega.{arith}
 use lib.ListN.{length, replicate, length-replicate, replicate-append-replicate}
@@ -27,14 +28,15 @@ use Rattle.statements.specs.Marked.{marked}
 use Rattle.statements.specs.Kept.{begun, Kept}
 use Rattle.statements.specs.declared.Out.{Out}
 use Rattle.statements.specs.declared.Point.{Point}
+use Rattle.refusal.specs.declared.Refusal.{Refusal}
 use Rattle.statements.proofs.Puts.{counted_begun, kept_begun, counted_alike}
 use Rattle.statements.specs.Points.{point, Tells}
-use Rattle.body.specs.Uses.{uses, Passes, After}
+use Rattle.body.specs.Uses.{uses, Passes}
 use Rattle.body.proofs.Stations.{entry_uses_uses}
 use Rattle.arrival.specs.Memory.{Memory, jumps}
 use Rattle.arrival.specs.Shares.{Arrays}
 use Rattle.arrival.specs.Visits.{Spoken, exit, Visits}
-use Rattle.arrival.specs.declared.jump.Visit.TheVariants.{Refused}
+use Rattle.visit.proofs.Entering.{passes_gone}
 use Rattle.fold_unfold.specs.Runs.{entered, opens}
 
 -- ALL FOLDED
@@ -79,11 +81,11 @@ folded_holds Γ {fn} F s {n} e z =
 -- THE ENTRY'S USES
 
 -- they pass
-pub record Entered (Γ fn : List ℕ) (recording : Bool) (out' : List ℕ) (r : After) : Type 0 where
+pub record Entered (Γ fn : List ℕ) (recording : Bool) (out' : List ℕ) (q : Out) (s : State) : Type 0 where
   pub entry : Forest × List At
   pub enters : enter_uses Γ (entry_uses fn) (leaves (local_types fn)) ≡ done entry
-  pub holds : Holds Γ (local_types fn) (value r.state) entry.0
-  pub spoken : (m : Memory) → m.lines ≡ [] → Spoken fn recording (entered Γ fn recording entry.1 m).lines out' r.out
+  pub holds : Holds Γ (local_types fn) (value s) entry.0
+  pub spoken : (m : Memory) → m.lines ≡ [] → Spoken fn recording (entered Γ fn recording entry.1 m).lines out' q
 
 -- what is told of them
 told_spoken : (Γ fn : List ℕ) (recording : Bool) {out out' : List ℕ} {p : Point} {q : Out} (ts : List At)
@@ -98,15 +100,15 @@ told_spoken Γ fn true {out} {out'} {q} ts T m l =
     let k : Kept (length ls) (marked (entry_point fn) ls) out' q = rw zero-add at (U.kept 0 [] (kept_begun out)) in
     record { pen = U.recording; counted = U.counted; kept = λ z. rw l k }
 
-module _ {Γ fn : List ℕ} {recording : Bool} {out out' : List ℕ} {p : Point} {r : After}
-    (P : Passes Γ fn out (begun recording p) out' (uses Γ fn true (start fn 0) 0 (leaves (local_types fn))) r) where
+module _ {Γ fn : List ℕ} {recording : Bool} {out out' : List ℕ} {p : Point} {s : State} where
   -- refused
-  pub entry_refused : (r.refusal ≡ 0 → ⊥) → (x : Arrays) (m : Memory) → Visits Γ fn recording x out (opens Γ fn recording m) x out' (Refused r.refusal)
+  pub entry_refused : {k : Refusal} → Passes Γ fn out (begun recording p) out' (uses Γ fn true (start fn 0) 0 (leaves (local_types fn))) (Err k) s
+      → (x : Arrays) (m : Memory) → Visits Γ fn recording x out (opens Γ fn recording m) x out' (Err k)
   unfolding opens
-  entry_refused n x m = split_answer (enter_uses Γ (entry_uses fn) (leaves (local_types fn)))
+  entry_refused P x m = split_answer (enter_uses Γ (entry_uses fn) (leaves (local_types fn)))
       (λ k e.
       let u = entry_uses_uses Γ fn (leaves (local_types fn)) in
-      let d = (P.denied k (cc)).0 in
+      let d = P.denied k (cc) in
       record {
         alike = record { kept = refl; visited = refl; waits = refl; forms = refl; whats = refl };
         same = P.same;
@@ -115,22 +117,23 @@ module _ {Γ fn : List ℕ} {recording : Bool} {out out' : List ℕ} {p : Point}
       })
       (λ w e.
       let u = entry_uses_uses Γ fn (leaves (local_types fn)) in
-      absurd (n (P.gone (w.0, mark (entry_point fn) w.1) (cc)).fine))
+      let f = (P.gone (w.0, mark (entry_point fn) w.1) (cc)).fine in
+      clash (cc))
 
   -- passed
-  pub entry_passed : r.refusal ≡ 0 → Entered Γ fn recording out' r
-  entry_passed z = split_answer (enter_uses Γ (entry_uses fn) (leaves (local_types fn)))
-      (λ k e.
-      let u = entry_uses_uses Γ fn (leaves (local_types fn)) in
-      let d = P.denied k (cc) in
-      absurd (d.1 (cc)))
+  pub entry_passed : {q : Out} → Passes Γ fn out (begun recording p) out' (uses Γ fn true (start fn 0) 0 (leaves (local_types fn))) (Ok q) s
+      → Entered Γ fn recording out' q s
+  entry_passed {q} P =
+      let (r, d, H, T) = passes_gone P in
+      split_answer (enter_uses Γ (entry_uses fn) (leaves (local_types fn)))
+      (λ k e. let u = entry_uses_uses Γ fn (leaves (local_types fn)) in clash (cc))
       (λ w e.
       let u = entry_uses_uses Γ fn (leaves (local_types fn)) in
-      let G = P.gone (w.0, mark (entry_point fn) w.1) (cc) in
-      record { entry = w; enters = e; holds = G.state; spoken = told_spoken Γ fn recording w.1 G.lines })
+      let z : (w.0, mark (entry_point fn) w.1) ≡ r = cc in
+      record { entry = w; enters = e; holds = rw (← z) at H; spoken = told_spoken Γ fn recording w.1 (rw (← z) at T) })
 
 -- and the jump to the start block
-pub opens_jumps : {Γ fn : List ℕ} {recording : Bool} {out' : List ℕ} {r : After} (N : Entered Γ fn recording out' r) (m : Memory)
+pub opens_jumps : {Γ fn : List ℕ} {recording : Bool} {out' : List ℕ} {q : Out} {s : State} (N : Entered Γ fn recording out' q s) (m : Memory)
     → opens Γ fn recording m ≡ jumps Γ fn recording (nblocks fn) (exit fn true 0 0 N.entry.0) (entered Γ fn recording N.entry.1 m)
 unfolding opens frame point
 opens_jumps N m = rw N.enters

@@ -3,6 +3,7 @@ use mathlib.Core.Path.{◌≡◌}
 use mathlib.Core.Bool.{true, false, cond}
 use mathlib.Core.List.{List}
 use Prim.Native.Nat.{ℕ, ◌*◌, ◌≤◌, ◌<◌}
+use Rattle.std.specs.Prelude.{Ok, Err}
 use native.Mathlib.Omega.{arith}
 use lib.Dec.{leb}
 use borrow.Author.Tests.{leb-true, leb-false, le-leb, lt-leb}
@@ -10,9 +11,13 @@ use Rattle.model.specs.Types.{types_ok}
 use Rattle.model.specs.State.{most}
 use Rattle.model.specs.Function.{nblocks, function_ok}
 use Rattle.model.specs.Block.{places_ok, is_join_point, join_points}
+use Rattle.model.specs.Answer.{refused}
 use Rattle.model.specs.Whole.{ghost_statements}
-use Rattle.base.specs.Tests.{cond_split, and_left, and_right}
+use Rattle.base.specs.Tests.{clash, cond_split, and_left, and_right}
 use Rattle.base.specs.Below.{count_most}
+use Rattle.refusal.specs.Refusal.{number}
+use Rattle.refusal.specs.declared.Refusal.{Refusal}
+use Rattle.refusal.specs.declared.Refusal.TheVariants.{BadFunction, BadPlace, ShortStore}
 use Rattle.mir.specs.Sizes.{Laid, Formed}
 use Rattle.mir.proofs.Sizes.{sizes_laid}
 use Rattle.arrival.specs.Shares.{Shared}
@@ -52,38 +57,46 @@ second_shorter k m n h =
 -- THE TESTS IN ORDER
 
 module _ {Γ fn : List ℕ} {nforms nwhats : ℕ} {points : List ℕ} where
-  -- the function record does not
-  pub denied_function : types_ok Γ ≡ true → function_ok Γ fn ≡ false → Checked Γ fn nforms nwhats points 2
+  -- one of them refuses
+  denied_by : {k : Refusal} → ghost_statements Γ fn (cond (leb nforms nwhats) nforms nwhats) ≡ refused (number k) → Checked Γ fn nforms nwhats points (Err k)
+  denied_by {k} g = record {
+    denied = λ e q. let z : k ≡ e = cc in rw z at g;
+    passed = λ z. clash (cc);
+    clear = λ z. clash (cc);
+  }
+
+  -- the function record does not pass
+  pub denied_function : types_ok Γ ≡ true → function_ok Γ fn ≡ false → Checked Γ fn nforms nwhats points (Err BadFunction)
   unfolding ghost_statements
-  denied_function t e = record { denied = λ n. cc; passed = λ z. absurd (omega arith); clear = λ z o R. absurd (omega arith) }
+  denied_function t e = denied_by (cc)
 
   -- a place does not
-  pub denied_places : types_ok Γ ≡ true → function_ok Γ fn ≡ true → places_ok fn ≡ false → Checked Γ fn nforms nwhats points 4
+  pub denied_places : types_ok Γ ≡ true → function_ok Γ fn ≡ true → places_ok fn ≡ false → Checked Γ fn nforms nwhats points (Err BadPlace)
   unfolding ghost_statements
-  denied_places t f e = record { denied = λ n. cc; passed = λ z. absurd (omega arith); clear = λ z o R. absurd (omega arith) }
+  denied_places t f e = denied_by (cc)
 
   module _ (t : types_ok Γ ≡ true) (f : function_ok Γ fn ≡ true) (p : places_ok fn ≡ true) where
     -- the store is too short
-    denied_store : leb (most * join_points fn) (cond (leb nforms nwhats) nforms nwhats) ≡ false → Checked Γ fn nforms nwhats points 10
+    denied_store : leb (most * join_points fn) (cond (leb nforms nwhats) nforms nwhats) ≡ false → Checked Γ fn nforms nwhats points (Err ShortStore)
     unfolding ghost_statements
-    denied_store e = record { denied = λ n. cc; passed = λ z. absurd (omega arith); clear = λ z o R. absurd (omega arith) }
+    denied_store e = denied_by (cc)
 
     -- its first array is
-    pub denied_forms : nforms < most * join_points fn → Checked Γ fn nforms nwhats points 10
+    pub denied_forms : nforms < most * join_points fn → Checked Γ fn nforms nwhats points (Err ShortStore)
     denied_forms h = denied_store (first_shorter (most * join_points fn) nforms nwhats h)
 
     -- its second array is
-    pub denied_whats : nwhats < most * join_points fn → Checked Γ fn nforms nwhats points 10
+    pub denied_whats : nwhats < most * join_points fn → Checked Γ fn nforms nwhats points (Err ShortStore)
     denied_whats h = denied_store (second_shorter (most * join_points fn) nforms nwhats h)
 
     -- all pass
-    pub all_pass : Formed fn → Shared fn points → most * join_points fn ≤ nforms → most * join_points fn ≤ nwhats → Checked Γ fn nforms nwhats points 0
+    pub all_pass : Formed fn → Shared fn points → most * join_points fn ≤ nforms → most * join_points fn ≤ nwhats → Checked Γ fn nforms nwhats points (Ok tt)
     unfolding ghost_statements
     all_pass L S h k =
         let e : leb (most * join_points fn) (cond (leb nforms nwhats) nforms nwhats) ≡ true =
         both_shorter (most * join_points fn) nforms nwhats h k in
         record {
-          denied = λ n. absurd (omega arith);
+          denied = λ e q. clash (cc);
           passed = λ z. cc;
           clear = λ z offs R. record { accepted = record { ready = R; function = f; formed = L; places = p }; shared = S; forms = h; whats = k };
         }

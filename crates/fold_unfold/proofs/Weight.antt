@@ -21,8 +21,6 @@ use Rattle.records.specs.Decode.{decode_encode}
 use Rattle.blocks.specs.Points.{share_number}
 use Rattle.arrival.specs.Memory.{Memory}
 use Rattle.arrival.specs.Shares.{Saved, waits_in, Arrays, share_of, Remembers}
-use Rattle.arrival.specs.declared.jump.Visit.{Visit}
-use Rattle.arrival.specs.declared.jump.Visit.TheVariants.{Over, Refused}
 use Rattle.fold_unfold.proofs.Rounds.{number}
 
 -- the state that a share holds, by its count
@@ -62,8 +60,3 @@ module _ {Γ fn : List ℕ} (known : Known Γ) {m : Memory} {a : Arrays} (R : Re
   unfolding weight load unvisited left frame
   weight_is false = sum_same _ _ (nblocks fn) (λ b l. cc (stored_is b l, R.waits b l))
   weight_is true = sum_same _ _ (nblocks fn) (λ b l. cc (R.visited b l))
-
--- one more turn is to come, if the visit was not refused
-abbrev pub height : Visit → ℕ → ℕ
-height (Over o) n = suc n
-height (Refused r) n = 0

@@ -1,5 +1,5 @@
 -- The two passes over the memory that both share: the opening of a pass, one popped block, the rounds that are left.
-use Rattle.std.specs.Prelude.{◌≡◌, ◌≢◌, Bool, true, false, List, [], ◌∷◌, ◌++◌, ℕ, ◌<◌, ◌*◌, ◌≤◌, length, replicate}
+use Rattle.std.specs.Prelude.{◌≡◌, ◌≢◌, Bool, true, false, List, [], ◌∷◌, ◌++◌, ℕ, ◌<◌, ◌*◌, ◌≤◌, length, replicate, Result, Ok}
 use Rattle.std.proofs.Math.Option.{Option, none, some}
 use Rattle.moments.specs.Lent.{Lent, was, after}
 use Rattle.model.specs.Answer.{Answer, refused, done, ◌>>=◌}
@@ -12,13 +12,13 @@ use Rattle.model.specs.Frame.{mark, opening_exit}
 use Rattle.model.specs.Rounds.{run_rounds}
 use Rattle.model.specs.Passes.{Store, solve, infer, round_two, unvisited}
 use Rattle.model.specs.Body.{enter_uses, frame}
+use Rattle.refusal.specs.Refusal.{answered}
+use Rattle.refusal.specs.declared.Refusal.{Refusal}
 use Rattle.statements.specs.declared.Out.{Out}
 use Rattle.queue.specs.Bits.{no_bits}
 use Rattle.queue.specs.Waiting.{Inverse}
 use Rattle.arrival.specs.Shares.{Arrays, arrays, kept_in, Change, Remembers}
 use Rattle.arrival.specs.Visits.{Spoken, Visits}
-use Rattle.arrival.specs.declared.jump.Visit.{Visit}
-use Rattle.arrival.specs.declared.jump.Visit.TheVariants.{Over, Refused}
 use Rattle.arrival.specs.Memory.{Memory, store_of, with_store, log_of, with_log, enters, jumps}
 
 -- the store is all zeros
@@ -107,29 +107,29 @@ abbrev pub fresh : List ℕ → List ℕ → List ℕ → Arrays
 fresh memo fs ws = arrays (kept_in memo) (replicate 256 0) no_bits fs ws
 
 -- model's answer a to a pass, in what outlives it
-pub record Ends (Γ fn : List ℕ) (recording : Bool) (kept fs ws out : List ℕ) (a : Answer Memory) (kept' fs' ws' out' : List ℕ) (r : Visit) : Type 0 where
+pub record Ends (Γ fn : List ℕ) (recording : Bool) (kept fs ws out : List ℕ) (a : Answer Memory) (kept' fs' ws' out' : List ℕ) (r : Result Out Refusal) : Type 0 where
   pub same_kept : length kept' ≡ length kept
   pub same_forms : length fs' ≡ length fs
   pub same_whats : length ws' ≡ length ws
   pub same_out : length out' ≡ length out
-  pub denied : (n : ℕ) → a ≡ refused n → r ≡ Refused n
+  pub denied : (n : ℕ) → a ≡ refused n → answered r ≡ refused n
   pub over : (m : Memory) → a ≡ done m
-      → (o : Out) × (v : List ℕ) × (w : List ℕ) × (r ≡ Over o) × Remembers Γ fn m (arrays kept' v w fs' ws') × Spoken fn recording m.lines out' o
+      → (o : Out) × (v : List ℕ) × (w : List ℕ) × (r ≡ Ok o) × Remembers Γ fn m (arrays kept' v w fs' ws') × Spoken fn recording m.lines out' o
 
 -- WHAT THE CODE DOES, from whatever memory the arrays and the buffer have
 
 -- the opening of a pass
-abbrev pub Opens : (Γ fn : List ℕ) → Bool → Change → Lent → Visit → Type 0
+abbrev pub Opens : (Γ fn : List ℕ) → Bool → Change → Lent → Result Out Refusal → Type 0
 Opens Γ fn recording x out r = (m : Memory) → m.lines ≡ [] → Remembers Γ fn m x.before
     → Visits Γ fn recording x.before (was out) (opens Γ fn recording m) x.behind (after out) r
 
 -- one popped block, from the state stored for it
-abbrev pub Turns : (Γ fn : List ℕ) → Change → Lent → ℕ → Out → Visit → Type 0
+abbrev pub Turns : (Γ fn : List ℕ) → Change → Lent → ℕ → Out → Result Out Refusal → Type 0
 Turns Γ fn x out b o r = (m : Memory) (S : Forest) → Remembers Γ fn m x.before → m.kept b ≡ some S
     → Spoken fn o.recording m.lines (was out) o
     → Visits Γ fn o.recording x.before (was out) (enters Γ fn o.recording (nblocks fn) b S (visiting b m)) x.behind (after out) r
 
 -- a whole pass
-abbrev pub Runs : (Γ fn : List ℕ) → Bool → (memo fs ws out : Lent) → Visit → Type 0
+abbrev pub Runs : (Γ fn : List ℕ) → Bool → (memo fs ws out : Lent) → Result Out Refusal → Type 0
 Runs Γ fn recording memo fs ws out r = (m : Memory) → Starts Γ fn recording m → Remembers Γ fn m (fresh (was memo) (was fs) (was ws))
     → Ends Γ fn recording (kept_in (was memo)) (was fs) (was ws) (was out) (pass Γ fn recording m) (kept_in (after memo)) (after fs) (after ws) (after out) r

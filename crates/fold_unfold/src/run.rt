@@ -6,15 +6,14 @@ ghost use Rattle.arrival.specs.Shares.{arrays_in, change, Shared};
 ghost use Rattle.fold_unfold.specs.Answers.{Analysed};
 ghost use Rattle.fold_unfold.specs.Runs.{fresh, Stored, Inverted, Begins, Opening, Opens, Turns, Runs, Wiped, StoreLong};
 
-use arrival::jump::Visit;
 use arrival::memory::{clear_visited, set_visited, stored};
 use body::items::{Items, pass_items};
 use mir::function::{nblocks, nlocals, rank_of, start_of};
-use queue::{Popped, pop};
+use queue::pop;
+use refusal::Refusal;
 use state::nodes::State;
 use state::share::load_state;
 use statements::{Out, begun, point_of};
-use type_record::record::wide;
 use visit::block::{Way, basic_block, begin};
 
 // The opening of a pass at the entry.
@@ -29,42 +28,26 @@ fn open_pass(
     whats: &mut [u16],
     out: &mut [u32],
     recording: bool,
-) -> Visit
+) -> Result<Out, Refusal>
     requires accepted { Accepted types.now offs.now fun.now }
     requires shared { Shared fun.now points.now }
     requires opening { Opening types.now fun.now recording (arrays_in memo.old waits.old forms.old whats.old) }
     ensures { Opens types.now fun.now recording (change memo waits forms whats) out result }
 {
-    let mut fs = [0u16; 512];
-    let mut ws = [0u16; 512];
+    let mut s = State {
+        forms: [0; 512],
+        whats: [0; 512],
+        nodes: nlocals(fun),
+    };
     let items = Items {
         from: 0,
         end: start_of(fun, 0),
         entry: true,
     };
     let o = begun(recording, point_of(0, true));
-    let r = pass_items(
-        types,
-        offs,
-        fun,
-        items,
-        &mut fs,
-        &mut ws,
-        nlocals(fun),
-        out,
-        o,
-    );
-    if r.refusal != 0 {
-        return Visit::Refused(r.refusal);
-    }
-    let t = State {
-        forms: fs,
-        whats: ws,
-        nodes: r.nodes,
-    };
-    let q = r.out;
+    let q = pass_items(types, offs, fun, items, &mut s, out, o)?;
     begin(
-        types, offs, fun, points, memo, waits, forms, whats, out, t, q,
+        types, offs, fun, points, memo, waits, forms, whats, out, s, q,
     )
 }
 
@@ -81,15 +64,15 @@ fn turn(
     out: &mut [u32],
     b: usize,
     o: Out,
-) -> Visit
+) -> Result<Out, Refusal>
     requires accepted { Accepted types.now offs.now fun.now }
     requires shared { Shared fun.now points.now }
     requires stored { Stored types.now fun.now b (arrays_in memo.old waits.old forms.old whats.old) out.old o }
     ensures { Turns types.now fun.now (change memo waits forms whats) out b o result }
 {
     set_visited(memo, b);
-    let p = wide(points[b]);
-    let k = wide(stored(memo, b));
+    let p = points[b] as usize;
+    let k = stored(memo, b) as usize;
     let a = 512 * (p - 1);
     let e = a + 512;
     let s = load_state(&forms[a..e], &whats[a..e], k - 1);
@@ -114,7 +97,7 @@ fn run(
     whats: &mut [u16],
     out: &mut [u32],
     recording: bool,
-) -> Visit
+) -> Result<Out, Refusal>
     requires accepted { Accepted types.now offs.now fun.now }
     requires shared { Shared fun.now points.now }
     requires inverted { Inverted fun.now blocks.now }
@@ -124,21 +107,15 @@ fn run(
 {
     clear_visited(memo);
     let mut waits = [0u64; 4];
-    let mut v = open_pass(
+    let mut o = open_pass(
         types, offs, fun, points, memo, &mut waits, forms, whats, out, recording,
-    );
-    loop {
-        let Visit::Over(o) = v else {
-            return v;
-        };
-        let p = pop(&mut waits, blocks, nblocks(fun));
-        let Popped::Block(b) = p else {
-            return Visit::Over(o);
-        };
-        v = turn(
+    )?;
+    while let Some(b) = pop(&mut waits, blocks, nblocks(fun)) {
+        o = turn(
             types, offs, fun, points, memo, &mut waits, forms, whats, out, b, o,
-        );
+        )?;
     }
+    Ok(o)
 }
 
 // The block of each rank.
@@ -147,12 +124,8 @@ fn invert(fun: &[u32], blocks: &mut [u32])
     requires in_bounds { 256 ≤ length blocks.old }
     ensures { Inverted fun.now blocks.new }
 {
-    let n = nblocks(fun);
-    let mut b = 0;
-    while b < n {
-        let r = rank_of(fun, b);
-        blocks[r] = b as u32;
-        b += 1;
+    for b in 0..nblocks(fun) {
+        blocks[rank_of(fun, b)] = b as u32;
     }
 }
 
@@ -165,7 +138,7 @@ pub fn analyse(
     forms: &mut [u16],
     whats: &mut [u16],
     out: &mut [u32],
-) -> Visit
+) -> Result<Out, Refusal>
     requires accepted { Accepted types.now offs.now fun.now }
     requires shared { Shared fun.now points.now }
     requires wiped { Wiped forms.old whats.old }
@@ -175,12 +148,9 @@ pub fn analyse(
     let mut memo = [0u32; 512];
     let mut blocks = [0u32; 256];
     invert(fun, &mut blocks);
-    let v = run(
+    run(
         types, offs, fun, points, &blocks, &mut memo, forms, whats, out, false,
-    );
-    let Visit::Over(_) = v else {
-        return v;
-    };
+    )?;
     run(
         types, offs, fun, points, &blocks, &mut memo, forms, whats, out, true,
     )

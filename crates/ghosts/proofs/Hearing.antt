@@ -1,41 +1,45 @@
--- What reads answer, and the pieces that were read.
-use Rattle.std.proofs.Common.{◌≡◌, refl, ap, ◌∙◌, List, [], ◌∷◌, ◌++◌, ℕ, suc, ◌-◌, ◌^◌, arith, length, take, ℤ, pos, negsuc, eqb, FitsSigned, to_z, of_z, w64}
-use Rattle.std.proofs.lemmas.Int.{to_z-of_z}
-use Rattle.std.specs.Int.Signed.{lt_z}
+-- The pieces that were read, and the bytes that they are.
+use Rattle.std.proofs.Common.{◌≡◌, ap, ◌∙◌, Option, None, Some, IfSome, List, [], ◌∷◌, ◌++◌, append-nil, ℕ}
+use Rattle.std.proofs.KnownBytes.{Consumes-nil, Consumes-trans}
+use Rattle.std.specs.Io.KnownBytes.{Consumes, IsAtEnd}
 use Rattle.model.specs.Ghosts.{fresh, close, scan}
-use Rattle.records.specs.Scanned.{scan_pieces}
+use Rattle.records.specs.Scanned.{scan_pieces, scan_append}
 use Rattle.text.specs.declared.scan.Scan.{Scan}
 use Rattle.text.specs.Reading.{Reads, Steps}
 use Rattle.text.specs.Pieces.{pieces_more}
 use Rattle.answer.specs.Said.{Ended}
-use Rattle.ghosts.specs.Heard.{Hears, clamp_len, some_came, none_came}
+use Rattle.ghosts.specs.declared.Input.{Input}
+use Rattle.ghosts.specs.Heard.{Piece, scan_of}
 
--- some pieces have been read
-pub record Heard (s : Scan) (words : List ℕ) : Type 0 where
+-- some pieces have been read, which a reader's bytes have lost, where they are known
+pub record Heard (old new : Option (List ℕ)) (s : Option Scan) (words : List ℕ) : Type 0 where
   pub pieces : List (List ℕ)
-  pub reads : Reads (scan_pieces pieces fresh) s words
+  pub in_pieces : Reads (scan_pieces pieces fresh) s words
+  pub bytes : List ℕ
+  pub whole : Reads (scan bytes fresh) s words
+  pub taken : Consumes old new bytes
 
--- an answer of a read, as the code tests it: bytes came
-pub some_tested : (z : ℤ) → FitsSigned w64 z → lt_z (pos 0) (to_z w64 (of_z w64 z)) ≡ some_came z
-unfolding some_came
-some_tested (pos n) f = rw (to_z-of_z w64 (pos n) f)
-some_tested (negsuc k) f = rw (to_z-of_z w64 (negsuc k) f)
-
--- none came
-pub none_tested : (z : ℤ) → FitsSigned w64 z → eqb (of_z w64 z) 0 ≡ none_came z
-unfolding none_came
-none_tested (pos n) f = refl
-none_tested (negsuc k) f = let h = f.sfits in grind arith
-
--- that many bytes are a piece
-pub piece_tested : (n : ℕ) (z : ℤ) (buf : List ℕ) {words after : List ℕ} {s r : Scan} → FitsSigned w64 z → n ≡ clamp_len (to_z w64 (of_z w64 z)) (length buf)
-    → Steps (scan (take n buf)) s words r after → Steps (scan (take (clamp_len z (length buf)) buf)) s words r after
-piece_tested n z buf f e h = rw (e ∙ ap (λ x. clamp_len x (length buf)) (to_z-of_z w64 z f)) at h
+-- before any read
+pub heard_none : (a : Option (List ℕ)) {s : Option Scan} {words : List ℕ} → Reads fresh s words → Heard a a s words
+unfolding scan
+heard_none a h = record { pieces = []; in_pieces = h; bytes = []; whole = h; taken = Consumes-nil a }
 
 -- a piece more
-pub heard_more : {s r : Scan} {words after : List ℕ} → Heard s words → Hears s words r after → Heard r after
-heard_more h k = record { pieces = h.pieces ++ (k.piece ∷ []); reads = pieces_more h.pieces k.piece h.reads k.steps }
+pub heard_more : {a b c : Option (List ℕ)} {s : Option Scan} {r : Input} {words after : List ℕ} → Heard a b s words → Piece b c s words r after → Heard a c (scan_of r) after
+heard_more {a} {b} {c} h k = record {
+  pieces = h.pieces ++ (k.piece ∷ []);
+  in_pieces = pieces_more h.pieces k.piece h.in_pieces k.steps;
+  bytes = h.bytes ++ k.piece;
+  whole = rw (scan_append h.bytes k.piece fresh) (k.steps.reads _ h.whole);
+  taken = Consumes-trans a b c h.bytes k.piece h.taken k.taken;
+}
 
--- the end
-pub heard_all : {s r : Scan} {words after : List ℕ} → Heard s words → Steps close s words r after → Ended r after
-heard_all h k = record { pieces = h.pieces; reads = k.reads _ h.reads }
+-- the end: the pieces are all, and where a reader's bytes are known they are these
+pub heard_all : {a b : Option (List ℕ)} {s r : Option Scan} {words after : List ℕ} → Heard a b s words → Steps close s words r after → Ended r after
+heard_all h k = record { pieces = h.pieces; reads = k.reads _ h.in_pieces }
+
+pub heard_whole : (a b : Option (List ℕ)) {s r : Option Scan} {words after : List ℕ} → Heard a b s words → IsAtEnd b → Steps close s words r after
+    → IfSome a (λ bytes. Reads (close (scan bytes fresh)) r after)
+heard_whole None b h e k = tt
+heard_whole (Some xs) None h e k = absurd h.taken
+heard_whole (Some xs) (Some ys) h e k = let w : xs ≡ h.bytes = h.taken ∙ ap (λ l. h.bytes ++ l) e ∙ append-nil h.bytes in rw w (k.reads _ h.whole)

@@ -1,37 +1,48 @@
 -- A text that is read, whatever bytes each read brings.
-use Rattle.std.specs.Prelude.{◌≡◌, Bool, false, true, List, ℕ, length, take, min, ℤ, pos, negsuc, eqb, ltb}
-use Rattle.model.specs.Ghosts.{scan}
+use Rattle.std.specs.Prelude.{◌≡◌, Bool, false, true, List, ℕ, length, take, min, eqb, ⊤, Option, Result, Ok, Err, IfSome}
+use Rattle.std.specs.Io.KnownBytes.{Keeps, Consumes, IsAtEnd}
+use Rattle.std.specs.declared.io.Error.{Error}
+use Rattle.model.specs.Ghosts.{fresh, close, scan}
 use Rattle.text.specs.declared.scan.Scan.{Scan}
-use Rattle.text.specs.Reading.{Steps}
+use Rattle.text.specs.Reading.{Reads, Steps}
 use Rattle.answer.specs.Said.{Ended}
-use Rattle.ghosts.specs.declared.More.{More}
+use Rattle.ghosts.specs.declared.Input.{Input}
+use Rattle.ghosts.specs.declared.Input.TheVariants.{More, End}
 
--- a piece more is read
-pub record Hears (s : Scan) (words : List ℕ) (r : Scan) (after : List ℕ) : Type 0 where
+-- where reading stands
+abbrev pub scan_of : Input → Option Scan
+scan_of (More s) = s
+scan_of (End s) = s
+
+abbrev pub ended : Input → Bool
+ended (More s) = false
+ended (End s) = true
+
+-- what a read brought is taken up: that many bytes of the buffer are a piece more, and reading goes on or has ended
+pub record Brings (n : ℕ) (buf : List ℕ) (s : Option Scan) (words : List ℕ) (r : Input) (after : List ℕ) : Type 0 where
+  pub steps : Steps (scan (take (min n (length buf)) buf)) s words (scan_of r) after
+  pub ends : ended r ≡ eqb n 0
+
+-- a piece more is read. A reader's bytes, where they are known, lose it; where the input has ended, none is left
+pub record Piece (old new : Option (List ℕ)) (s : Option Scan) (words : List ℕ) (r : Input) (after : List ℕ) : Type 0 where
   pub piece : List ℕ
-  pub steps : Steps (scan piece) s words r after
+  pub steps : Steps (scan piece) s words (scan_of r) after
+  pub taken : Consumes old new piece
+  pub end : ended r ≡ true → IsAtEnd new
 
--- what a read answered, as a number of the buffer's bytes
-abbrev pub clamp_len : ℤ → ℕ → ℕ
-clamp_len (pos k) most = min k most
-clamp_len (negsuc k) most = 0
-
--- a read answered that bytes came
-unfoldable pub some_came : ℤ → Bool
-some_came (pos n) = ltb 0 n
-some_came (negsuc k) = false
-
--- or that none did, which is the end of the input; a number below 0 says that it failed
-unfoldable pub none_came : ℤ → Bool
-none_came (pos n) = eqb n 0
-none_came (negsuc k) = false
-
--- what a read answered is taken up: that many bytes of the buffer are a piece more, and reading goes on or has ended
-pub record Brings (got : ℤ) (buf : List ℕ) (s : Scan) (words : List ℕ) (r : More) (after : List ℕ) : Type 0 where
-  pub steps : Steps (scan (take (clamp_len got (length buf)) buf)) s words r.scan after
-  pub goes : r.going ≡ some_came got
-  pub ends : r.ended ≡ none_came got
+-- a read that fails takes nothing and leaves the words
+abbrev pub Takes : Option (List ℕ) → Option (List ℕ) → Option Scan → List ℕ → Result Input Error → List ℕ → Type 0
+Takes old new s words (Ok r) after = Piece old new s words r after
+Takes old new s words (Err e) after = Keeps old new × (after ≡ words)
 
 -- an input that has ended has been read whole
-abbrev pub HeardAll : More → List ℕ → Type 0
-HeardAll r words = r.ended ≡ true → Ended r.scan words
+abbrev pub HeardAll : Result Input Error → List ℕ → Type 0
+HeardAll (Ok (End s)) words = Ended s words
+HeardAll (Ok (More s)) words = ⊤
+HeardAll (Err e) words = ⊤
+
+-- where a reader's bytes are known, an input that has ended has been read as those and no others
+abbrev pub ReadsWhole : Option (List ℕ) → Result Input Error → List ℕ → Type 0
+ReadsWhole known (Ok (End s)) words = IfSome known (λ bytes. Reads (close (scan bytes fresh)) s words)
+ReadsWhole known (Ok (More s)) words = ⊤
+ReadsWhole known (Err e) words = ⊤

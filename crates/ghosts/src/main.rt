@@ -1,8 +1,8 @@
 // The program: both records from standard input as decimal words, the statements to standard output.
 #![tactic(auto)]
 
-ghost use Rattle.std.specs.Prelude.{◌≡◌, ◌≤◌, length};
-ghost use Rattle.ghosts.specs.Heard.{Hears, Brings, HeardAll, clamp_len};
+ghost use Rattle.std.specs.Prelude.{◌≡◌, length};
+ghost use Rattle.ghosts.specs.Heard.{Brings, Takes, HeardAll, ReadsWhole};
 
 use answer::{respond, room};
 use std::alloc::{AllocError, Global};
@@ -18,82 +18,51 @@ fn page() -> [u8; 14336]
     [0; 14336]
 }
 
-// Where reading has come to: more may come, or the input has ended; neither, where a read failed, with the error.
-#[derive(Drop)]
-struct More {
-    scan: Scan,
-    going: bool,
-    ended: bool,
-    error: Option<io::Error>,
+// Where reading has come to: more may come, or the input has ended.
+#[derive(Clone, Copy)]
+enum Input {
+    More(Option<Scan>),
+    End(Option<Scan>),
 }
 
-// How many bytes of buf a read brought: none, if it failed.
-fn count(got: isize, buf: &[u8]) -> usize
-    ensures in_bounds { result ≤ length buf.now }
-    ensures value { result ≡ clamp_len got (length buf.now) }
-{
-    if got <= 0 {
-        return 0;
-    }
-    let n = got as usize;
-    if n < buf.len() { n } else { buf.len() }
-}
-
-// What a read answered, taken up: so many bytes are scanned; 0 is the end of the input, and a number below 0 a failure.
-fn hear(s: Scan, got: isize, buf: &[u8], words: &mut [u32]) -> More
+// So many bytes of buf, which a read brought, are scanned; none is the end of the input.
+fn hear(s: Option<Scan>, n: usize, buf: &[u8], words: &mut [u32]) -> Input
     requires { length words.old ≡ 4096 }
-    ensures { Brings got buf.now s words.old result words.new }
+    ensures { Brings n buf.now s words.old result words.new }
 {
-    let n = count(got, buf);
-    let t = scan_piece(s, &buf[..n], words);
-    More {
-        scan: t,
-        going: 0 < got,
-        ended: got == 0,
-        error: None,
+    let s = scan_piece(s, &buf[..n.min(buf.len())], words);
+    if n == 0 {
+        Input::End(s)
+    } else {
+        Input::More(s)
     }
 }
 
 // One read, whatever it brings.
-fn read_some(input: &mut impl Read, s: Scan, words: &mut [u32]) -> More
+fn read_some<R: Read>(input: &mut R, s: Option<Scan>, words: &mut [u32]) -> io::Result<Input>
     requires { length words.old ≡ 4096 }
-    ensures { Hears s words.old result.scan words.new }
+    ensures { Takes (R.remaining input.old) (R.remaining input.new) s words.old result words.new }
 {
     let mut buf = [0u8; 4096];
-    match input.read(&mut buf) {
-        Ok(n) => hear(s, n as isize, &buf, words),
-        Err(e) => {
-            let mut m = hear(s, -1, &buf, words);
-            m.error = Some(e);
-            m
-        }
-    }
+    let n = input.read(&mut buf)?;
+    Ok(hear(s, n, &buf, words))
 }
 
-// The words of the whole input, if it is read to its end. The turns are counted down from a number that no run uses up, since nothing says that an input ends.
-fn read_all(input: &mut impl Read, words: &mut [u32]) -> More
+// The words of the whole input, if it is read to its end. More may still come only after more reads than any run makes, since nothing says
+// that an input ends.
+fn read_all<R: Read>(input: &mut R, words: &mut [u32]) -> io::Result<Input>
     requires { length words.old ≡ 4096 }
-    ensures { HeardAll result words.new }
+    ensures heard { HeardAll result words.new }
+    ensures whole { ReadsWhole (R.remaining input.old) result words.new }
 {
-    let mut m = More {
-        scan: fresh(),
-        going: true,
-        ended: false,
-        error: None,
-    };
-    let mut turns = u64::MAX;
-    while 0 < turns && m.going {
-        turns -= 1;
-        let s = m.scan;
-        m = read_some(input, s, words);
+    let mut s = fresh();
+    for _ in 0..u64::MAX {
+        match read_some(input, s, words)? {
+            Input::More(t) => s = t,
+            Input::End(t) => return Ok(Input::End(close(t, words))),
+        }
     }
-    let t = close(m.scan, words);
-    More {
-        scan: t,
-        going: m.going,
-        ended: m.ended,
-        error: m.error,
-    }
+    Ok(Input::More(s))
 }
 
 // The system's text of an error, without its number.
@@ -117,14 +86,15 @@ fn fail(rt: &(impl Eprint + AllocGlobal), what: &str, error: io::Error) {
 fn main(rt: HostRuntime) -> ExitCode {
     let mut words = room();
     let mut text = page();
-    let m = read_all(&mut rt.stdin(), &mut words);
-    if let Some(e) = m.error {
-        fail(&rt, "ghosts: cannot read standard input", e);
-    }
-    if !m.ended {
-        return ExitCode::FAILURE;
-    }
-    let n = respond(m.scan, &words, &mut text);
+    let s = match read_all(&mut rt.stdin(), &mut words) {
+        Ok(Input::End(s)) => s,
+        Ok(Input::More(_)) => return ExitCode::FAILURE,
+        Err(e) => {
+            fail(&rt, "ghosts: cannot read standard input", e);
+            return ExitCode::FAILURE;
+        }
+    };
+    let n = respond(s, &words, &mut text);
     if let Err(e) = rt.write_all(&text[..n]) {
         fail(&rt, "ghosts: cannot write standard output", e);
         return ExitCode::FAILURE;

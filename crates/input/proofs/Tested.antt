@@ -1,6 +1,6 @@
 -- What the tests of input say to the calls that model defines: each goes on, or is refused. Assumes nothing.
 use mathlib.Core.Path.{◌≡◌}
-use mathlib.Core.Bool.{true, false, cond}
+use mathlib.Core.Bool.{cond}
 use mathlib.Core.List.{List}
 use mathlib.Core.Option.{some}
 use Prim.Native.Nat.{ℕ}
@@ -14,21 +14,7 @@ use Rattle.base.specs.Tests.{split, split_option}
 use Rattle.records.specs.Here.{Holds}
 use Rattle.records.specs.Encode.{decode_holds}
 use Rattle.mir.specs.Parts.{is_some}
-use Rattle.type_record.specs.Sizes.{Offsets}
 use Rattle.input.specs.Input.{Checked}
-
-module _ {Γ locals os : List ℕ} where
-  -- the type record does not pass
-  pub checked_types : types_ok Γ ≡ false → Checked Γ locals os 1
-  checked_types e = record { answer = cc; ready = λ z. absurd (omega arith); typed = λ z. absurd (omega arith) }
-
-  -- the local types do not
-  pub checked_locals : types_ok Γ ≡ true → locals_ok Γ locals ≡ false → Checked Γ locals os 3
-  checked_locals e d = record { answer = cc; ready = λ z. absurd (omega arith); typed = λ z. absurd (omega arith) }
-
-  -- both pass
-  pub checked_both : types_ok Γ ≡ true → Offsets Γ os → locals_ok Γ locals ≡ true → Checked Γ locals os 0
-  checked_both e o d = record { answer = cc; ready = λ z. record { typed = e; offsets = o }; typed = λ z. d }
 
 module _ {A : Type 0} {Γ locals os : List ℕ} {r : ℕ} (c : Checked Γ locals os r) (f : Unit {0} → Answer A) where
   -- the types and the local types pass

@@ -11,27 +11,22 @@ pub mod settle;
 pub mod trees;
 
 use input::{check_given, check_locals};
+use refusal::Refusal;
 use state::nodes::State;
-use trees::{Joined, join_into};
+use trees::join_into;
 
-// Whether the first state changed, or the refusal.
-#[derive(Drop)]
-pub enum Flag {
-    Of(bool),
-    Refused(u32),
-}
-
+// Whether the first state changed, or the refusal; and the first state as it is then.
 #[derive(Drop)]
 pub struct Merged {
-    pub answer: Flag,
+    pub answer: Result<bool, Refusal>,
     pub state: State,
 }
 
-fn refused(n: u32, s: State) -> Merged
-    ensures { result ≡ refusal n s }
+fn refused(r: Refusal, s: State) -> Merged
+    ensures { result ≡ refusal r s }
 {
     Merged {
-        answer: Flag::Refused(n),
+        answer: Err(r),
         state: s,
     }
 }
@@ -42,28 +37,26 @@ pub fn join(types: &[u32], locals: &[u32], s: State, e: State) -> Merged
     ensures promised { Promises types.now locals.now s e result }
 {
     let mut offs = [0u32; 4096];
-    let a = check_locals(types, locals, &mut offs);
-    if a != 0 {
-        return refused(a, s);
+    if let Err(r) = check_locals(types, locals, &mut offs) {
+        return refused(r, s);
     }
-    if check_given(types, &offs, locals, s) != 0 {
-        return refused(3, s);
+    if let Err(r) = check_given(types, &offs, locals, s) {
+        return refused(r, s);
     }
-    if check_given(types, &offs, locals, e) != 0 {
-        return refused(3, s);
+    if let Err(r) = check_given(types, &offs, locals, e) {
+        return refused(r, s);
     }
     let mut forms = [0u16; 512];
     let mut whats = [0u16; 512];
-    let j = join_into(types, &offs, locals, s, e, &mut forms, &mut whats);
-    let Joined::To { nodes, changed } = j else {
-        return refused(9, s);
+    let Some(j) = join_into(types, &offs, locals, s, e, &mut forms, &mut whats) else {
+        return refused(Refusal::StateFull, s);
     };
     Merged {
-        answer: Flag::Of(changed),
+        answer: Ok(j.changed),
         state: State {
             forms,
             whats,
-            nodes,
+            nodes: j.nodes,
         },
     }
 }

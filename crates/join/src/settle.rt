@@ -1,19 +1,18 @@
 // A tree that meets a folded one: what is left of it is written to a second place.
 ghost use Rattle.std.specs.Prelude.{◌<◌};
-ghost use Rattle.moments.specs.Lent.{was};
 ghost use Rattle.model.specs.Types.{ntypes};
 ghost use Rattle.records.specs.Here.{Here, Heres};
 ghost use Rattle.type_record.specs.Sizes.{Ready};
 ghost use Rattle.state.specs.Kids.{KidsIn, kid_types};
 ghost use Rattle.join.specs.Ends.{Room, arrays, Settled, SettledAll};
 
-use crate::ends::{Ends, Marks, either, overfull, reached, stays};
+use crate::ends::{Ends, Marks, stays};
 use state::kids::{Kids, first_kid, kids_of, rest_of_kids};
 use state::nodes::node_end;
-use type_record::kinds::below;
-use type_record::record::kind_of;
+use type_record::record::kind_at;
 
-// Joins the tree of type t at i with a folded one. changed: some node of it was folded.
+// Joins the tree of type t at i with a folded one, unless there is no room. changed: some node of it was folded.
+#[tactic(auto, using(crate::proofs::Settles::settle_over, state::proofs::Fields::ready_sized))]
 #[cycle(settle_fields_settle_node)]
 pub fn settle_node<'a>(
     types: &[u32],
@@ -26,7 +25,7 @@ pub fn settle_node<'a>(
     of: &mut [u16],
     ow: &mut [u16],
     k: usize,
-) -> Ends
+) -> Option<Ends>
     requires ready { Ready types.now offs.now }
     requires t_bound { t < ntypes types.now }
     requires here { Here types.now forms.now whats.now i t }
@@ -34,10 +33,10 @@ pub fn settle_node<'a>(
     ensures { Settled types.now (arrays of.old ow.old) (arrays of.new ow.new) k (arrays forms.now whats.now) i t m result }
 {
     if 512 <= k {
-        return overfull();
+        return None;
     }
     let f = forms[i];
-    let kind = kind_of(types, t);
+    let kind = kind_at(types, t);
     if stays(f, m, kind) {
         let w = whats[i];
         of[k] = f;
@@ -50,7 +49,7 @@ pub fn settle_node<'a>(
             whats,
             i + 1,
             ks,
-            below(m, kind),
+            kind.below(m),
             of,
             ow,
             k + 1,
@@ -63,7 +62,10 @@ pub fn settle_node<'a>(
         second: 0,
         out: k + 1,
     };
-    reached(to, f != 0)
+    Some(Ends {
+        to,
+        changed: f != 0,
+    })
 }
 
 #[cycle(settle_fields_settle_node)]
@@ -78,7 +80,7 @@ fn settle_fields<'a>(
     of: &mut [u16],
     ow: &mut [u16],
     k: usize,
-) -> Ends
+) -> Option<Ends>
     requires ready { Ready types.now offs.now }
     requires kids_in { KidsIn types.now ks }
     requires heres { Heres types.now forms.now whats.now i (kid_types types.now ks) }
@@ -91,28 +93,24 @@ fn settle_fields<'a>(
             second: 0,
             out: k,
         };
-        return reached(to, false);
+        return Some(Ends { to, changed: false });
     }
     let t = first_kid(types, offs, ks);
-    let a = settle_node(types, offs, forms, whats, i, t, m, of, ow, k);
-    if a.full {
-        return overfull();
-    }
-    let next = a.to;
+    let a = settle_node(types, offs, forms, whats, i, t, m, of, ow, k)?;
     let b = settle_fields(
         types,
         offs,
         forms,
         whats,
-        next.first,
+        a.to.first,
         rest_of_kids(ks),
         m,
         of,
         ow,
-        next.out,
-    );
-    if b.full {
-        return overfull();
-    }
-    reached(b.to, either(a.changed, b.changed))
+        a.to.out,
+    )?;
+    Some(Ends {
+        to: b.to,
+        changed: a.changed || b.changed,
+    })
 }

@@ -8,15 +8,15 @@ ghost use Rattle.state.specs.Kids.{KidsIn, kid_types};
 ghost use Rattle.join.specs.Ends.{Room, arrays, marks, Met, MetAll};
 ghost use Rattle.join.specs.Answers.{Given, JoinedAs};
 
-use crate::ends::{Ends, Marks, either, overfull, reached, stays};
+use crate::ends::{Ends, Marks, stays};
 use crate::settle::settle_node;
 use state::edit::clear;
 use state::kids::{Kids, first_kid, kids_of, rest_of_kids};
 use state::nodes::{State, node_end};
-use type_record::kinds::below;
-use type_record::record::{kind_of, wide};
+use type_record::record::kind_at;
 
-// Joins the trees of type t that stand at from.first of the first arrays and at from.second of the second.
+// Joins the trees of type t that stand at from.first of the first arrays and at from.second of the second, unless there is no room.
+#[tactic(auto, using(crate::proofs::Joins::join_over, state::proofs::Fields::ready_sized))]
 #[cycle(join_fields_join_node)]
 fn join_node<'a>(
     types: &[u32],
@@ -30,7 +30,7 @@ fn join_node<'a>(
     m: bool,
     of: &mut [u16],
     ow: &mut [u16],
-) -> Ends
+) -> Option<Ends>
     requires ready { Ready types.now offs.now }
     requires t_bound { t < ntypes types.now }
     requires here { Here types.now f1.now w1.now from.first t }
@@ -41,37 +41,31 @@ fn join_node<'a>(
     let i = from.first;
     let j = from.second;
     let k = from.out;
-    let kind = kind_of(types, t);
+    let kind = kind_at(types, t);
     let f = f1[i];
     let g = f2[j];
     if f == 0 {
-        let a = settle_node(types, offs, f2, w2, j, t, m, of, ow, k);
-        if a.full {
-            return overfull();
-        }
-        let past = a.to;
+        let a = settle_node(types, offs, f2, w2, j, t, m, of, ow, k)?;
         let to = Marks {
             first: i + 1,
-            second: past.first,
-            out: past.out,
+            second: a.to.first,
+            out: a.to.out,
         };
-        return reached(to, stays(g, m, kind));
+        return Some(Ends {
+            to,
+            changed: stays(g, m, kind),
+        });
     }
     if g == 0 {
-        let a = settle_node(types, offs, f1, w1, i, t, m, of, ow, k);
-        if a.full {
-            return overfull();
-        }
-        let past = a.to;
+        let a = settle_node(types, offs, f1, w1, i, t, m, of, ow, k)?;
         let to = Marks {
-            first: past.first,
             second: j + 1,
-            out: past.out,
+            ..a.to
         };
-        return reached(to, a.changed);
+        return Some(Ends { to, ..a });
     }
     if k >= 512 {
-        return overfull();
+        return None;
     }
     let w = w1[i];
     if w == w2[j] {
@@ -92,7 +86,7 @@ fn join_node<'a>(
             w2,
             inside,
             ks,
-            below(m, kind),
+            kind.below(m),
             of,
             ow,
         );
@@ -104,7 +98,7 @@ fn join_node<'a>(
         second: node_end(types, offs, f2, w2, j, t),
         out: k + 1,
     };
-    reached(to, true)
+    Some(Ends { to, changed: true })
 }
 
 #[cycle(join_fields_join_node)]
@@ -120,7 +114,7 @@ fn join_fields<'a>(
     m: bool,
     of: &mut [u16],
     ow: &mut [u16],
-) -> Ends
+) -> Option<Ends>
     requires ready { Ready types.now offs.now }
     requires kids_in { KidsIn types.now ks }
     requires heres { Heres types.now f1.now w1.now from.first (kid_types types.now ks) }
@@ -129,26 +123,26 @@ fn join_fields<'a>(
     ensures { MetAll types.now (arrays of.old ow.old) (arrays of.new ow.new) (arrays f1.now w1.now) (arrays f2.now w2.now) from (kid_types types.now ks) m result }
 {
     if ks.count == 0 {
-        return reached(from, false);
+        return Some(Ends {
+            to: from,
+            changed: false,
+        });
     }
     let t = first_kid(types, offs, ks);
-    let a = join_node(types, offs, f1, w1, f2, w2, from, t, m, of, ow);
-    if a.full {
-        return overfull();
-    }
+    let a = join_node(types, offs, f1, w1, f2, w2, from, t, m, of, ow)?;
     let rest = rest_of_kids(ks);
-    let b = join_fields(types, offs, f1, w1, f2, w2, a.to, rest, m, of, ow);
-    if b.full {
-        return overfull();
-    }
-    reached(b.to, either(a.changed, b.changed))
+    let b = join_fields(types, offs, f1, w1, f2, w2, a.to, rest, m, of, ow)?;
+    Some(Ends {
+        to: b.to,
+        changed: a.changed || b.changed,
+    })
 }
 
-// What a join of two states gives: the nodes of the result and whether the first state changed, or no room.
-#[derive(Drop)]
-pub enum Joined {
-    To { nodes: usize, changed: bool },
-    Full,
+// What a join of two states gives: the nodes of the result and whether the first state changed.
+#[derive(Clone, Copy)]
+pub struct Joined {
+    pub nodes: usize,
+    pub changed: bool,
 }
 
 fn join_locals<'a>(
@@ -161,7 +155,7 @@ fn join_locals<'a>(
     w2: &'a [u16],
     of: &mut [u16],
     ow: &mut [u16],
-) -> Ends
+) -> Option<Ends>
     requires ready { Ready types.now offs.now }
     requires locals_value { locals_ok types.now locals.now ≡ true }
     requires heres { Heres types.now f1.now w1.now 0 locals.now }
@@ -169,27 +163,21 @@ fn join_locals<'a>(
     requires room { Room of.old ow.old 0 }
     ensures { MetAll types.now (arrays of.old ow.old) (arrays of.new ow.new) (arrays f1.now w1.now) (arrays f2.now w2.now) (marks 0 0 0) locals.now false result }
 {
-    let n = locals.len();
-    let start = Marks {
+    let mut to = Marks {
         first: 0,
         second: 0,
         out: 0,
     };
-    let mut e = reached(start, false);
-    let mut l = 0;
-    while l < n {
-        let t = wide(locals[l]);
-        let a = join_node(types, offs, f1, w1, f2, w2, e.to, t, false, of, ow);
-        if a.full {
-            return overfull();
-        }
-        e = reached(a.to, either(e.changed, a.changed));
-        l += 1;
+    let mut changed = false;
+    for t in locals {
+        let a = join_node(types, offs, f1, w1, f2, w2, to, *t as usize, false, of, ow)?;
+        to = a.to;
+        changed = changed || a.changed;
     }
-    e
+    Some(Ends { to, changed })
 }
 
-// The join of two states, written to two arrays of 512 entries, zeros behind it.
+// The join of two states, written to two arrays of 512 entries, zeros behind it; None: it has no room.
 pub fn join_into(
     types: &[u32],
     offs: &[u32],
@@ -198,7 +186,7 @@ pub fn join_into(
     e: State,
     of: &mut [u16],
     ow: &mut [u16],
-) -> Joined
+) -> Option<Joined>
     requires ready { Ready types.now offs.now }
     requires locals_value { locals_ok types.now locals.now ≡ true }
     requires given { Given types.now locals.now s }
@@ -208,16 +196,12 @@ pub fn join_into(
 {
     let r = join_locals(
         types, offs, locals, &s.forms, &s.whats, &e.forms, &e.whats, of, ow,
-    );
-    if r.full {
-        return Joined::Full;
-    }
-    let to = r.to;
-    let k = to.out;
-    clear(of, k, 512);
-    clear(ow, k, 512);
-    Joined::To {
-        nodes: k,
+    )?;
+    let nodes = r.to.out;
+    clear(of, nodes, 512);
+    clear(ow, nodes, 512);
+    Some(Joined {
+        nodes,
         changed: r.changed,
-    }
+    })
 }

@@ -1,14 +1,14 @@
 -- What the call answers at each of its returns, and what it promises of its answer.
-use mathlib.Core.Path.{◌≡◌, refl, sym, ◌∙◌}
+use Rattle.std.proofs.Common.{Result, Ok, Err, OnOk}
+use mathlib.Core.Path.{◌≡◌, refl}
 use mathlib.Core.Bool.{true, false}
 use mathlib.Core.List.{List, ◌++◌}
-use Prim.Native.Nat.{ℕ, ◌+◌, ◌-◌, ◌≤◌, ◌<◌}
+use Prim.Native.Nat.{ℕ, ◌-◌, ◌≤◌, ◌<◌}
 use native.Mathlib.Omega.{arith}
 use lib.ListN.{length, replicate}
 use lib.Seq.{sets, take-append_seam}
 use lib.Dec.{leb}
 use borrow.Author.Tests.{le-leb, lt-leb}
-use Rattle.model.specs.Answer.{Answer, refused, done}
 use Rattle.model.specs.Rounds.{elem}
 use Rattle.model.specs.Types.{types_length, types_ok}
 use Rattle.model.specs.Record.{lent}
@@ -22,14 +22,10 @@ use Rattle.base.specs.Typed.{types_typed}
 use Rattle.moved.specs.Merged.{merged_long}
 use Rattle.moved.proofs.Passing.{merged_passes}
 use Rattle.moved.proofs.Linked.{merged_links}
-use Rattle.merge.specs.Answers.{answered, Gives, Numbered}
-use Rattle.merge.specs.declared.Merged.{Merged}
-use Rattle.merge.specs.declared.Merged.TheVariants.{Done, Refused}
-
--- a refusal's number
-refused_as : (x : Answer (List ℕ)) {m : ℕ} → answered x ≡ Refused m → x ≡ refused m
-refused_as (refused m) e = cc
-refused_as (done l) e = clash (cc)
+use Rattle.refusal.specs.declared.Refusal.{Refusal}
+use Rattle.refusal.specs.declared.Refusal.TheVariants.{BadTypes, ShortStore, MergedTooLarge}
+use Rattle.refusal.specs.Refusal.{number}
+use Rattle.merge.specs.Answers.{Gives, Numbered}
 
 module _ (Γ Δ : List ℕ) (n : ℕ) where
   -- with which numbers
@@ -45,30 +41,30 @@ module _ (Γ Δ : List ℕ) (n : ℕ) where
 
   module _ {out : List ℕ} where
     -- the first record is none
-    pub gives_first : out ≡ replicate n 0 → types_ok Γ ≡ false → Gives Γ Δ n out (Refused 1)
+    pub gives_first : out ≡ replicate n 0 → types_ok Γ ≡ false → Gives Γ Δ n out (Err BadTypes)
     unfolding merge_types merged_lent
     gives_first z a = record { answer = cc; left = cc }
 
     module _ (a : types_ok Γ ≡ true) where
       -- the second is none
-      pub gives_second : out ≡ replicate n 0 → types_ok Δ ≡ false → Gives Γ Δ n out (Refused 1)
+      pub gives_second : out ≡ replicate n 0 → types_ok Δ ≡ false → Gives Γ Δ n out (Err BadTypes)
       unfolding merge_types merged_lent
       gives_second z b = record { answer = cc; left = cc }
 
       module _ (b : types_ok Δ ≡ true) where
         -- the sums are too large
-        pub gives_large : out ≡ replicate n 0 → sums_ok Γ Δ ≡ false → Gives Γ Δ n out (Refused 12)
+        pub gives_large : out ≡ replicate n 0 → sums_ok Γ Δ ≡ false → Gives Γ Δ n out (Err MergedTooLarge)
         unfolding merge_types merged_lent
         gives_large z c = record { answer = cc; left = cc }
 
         module _ (c : sums_ok Γ Δ ≡ true) {k : ℕ} (e : k ≡ length (merged Γ Δ)) where
           -- the output is too short
-          pub gives_short : out ≡ replicate n 0 → n < k → Gives Γ Δ n out (Refused 10)
+          pub gives_short : out ≡ replicate n 0 → n < k → Gives Γ Δ n out (Err ShortStore)
           unfolding merge_types merged_lent
           gives_short z l = let d = lt-leb (length (merged Γ Δ)) n (omega arith) in record { answer = cc; left = cc }
 
           -- it is merged
-          pub gives_merged : {zeros : List ℕ} → zeros ≡ replicate n 0 → k ≤ n → out ≡ sets zeros 0 (merged Γ Δ) → Gives Γ Δ n out (Done k)
+          pub gives_merged : {zeros : List ℕ} → zeros ≡ replicate n 0 → k ≤ n → out ≡ sets zeros 0 (merged Γ Δ) → Gives Γ Δ n out (Ok k)
           unfolding merge_types merged_lent
           gives_merged {zeros} z l w =
               let d = le-leb (length (merged Γ Δ)) n (omega arith) in
@@ -98,34 +94,40 @@ module _ (Γ Δ : List ℕ) (n : ℕ) where
   unfolding types_length merged
   sizes_read z a b = omega (arith, merged_long (types_typed Γ a) (types_typed Δ b))
 
+module _ {Γ Δ : List ℕ} {n : ℕ} where
   -- so the record in the output is the merged one
-  stands : {out : List ℕ} {r : Merged} {m : ℕ} → Gives Γ Δ n out r → r ≡ Done m → Merging (record_in out)
+  stands : {out : List ℕ} {m : ℕ} → Gives Γ Δ n out (Ok m) → Merging Γ Δ n (record_in out)
   unfolding record_in merged_lent lent
-  stands {out} G e =
+  stands {out} G =
       let q = G.answer in
       split_answer (merge_types Γ Δ n)
       (λ k p. clash (cc))
       (λ l p.
-      let M = good_at merging p in
+      let M = good_at (merging Γ Δ n) p in
       let z : List ℕ = replicate (n - length (merged Γ Δ)) 0 in
       let w : out ≡ merged Γ Δ ++ z = rw (p, M.is) at G.left in
       record {
         first = M.first;
         second = M.second;
         sums = M.sums;
-        is = rw (w, sizes_read z M.first M.second) (take-append_seam (merged Γ Δ) z);
+        is = rw (w, sizes_read Γ Δ n z M.first M.second) (take-append_seam (merged Γ Δ) z);
       })
 
   -- all that the contract says
-  pub promised : {out : List ℕ} {r : Merged} → Gives Γ Δ n out r
-      → Gives Γ Δ n out r × (Numbered r × (((m : ℕ) → r ≡ Done m → Passes out) × ((m : ℕ) → r ≡ Done m → Links Γ Δ (record_in out))))
-  promised G = (
-    G,
-    (
-      λ m e. only_at merge_refusals (refused_as (merge_types Γ Δ n) (sym G.answer ∙ e)),
-      (
-        λ m e. let S = stands G e in rw S.is (merged_passes (types_typed Γ S.first) (types_typed Δ S.second) S.sums),
-        λ m e. let S = stands G e in rw S.is (merged_links Γ Δ S.first S.second S.sums),
-      ),
-    ),
-  )
+  pub promised : {out : List ℕ} {r : Result ℕ Refusal} → Gives Γ Δ n out r → Gives Γ Δ n out r × Numbered r × OnOk r (Passes out) × OnOk r (Links Γ Δ (record_in out))
+  promised {r = Ok m} G =
+      let S = stands G in (
+        G,
+        λ x e. absurd (cc),
+        rw S.is (merged_passes (types_typed Γ S.first) (types_typed Δ S.second) S.sums),
+        rw S.is (merged_links Γ Δ S.first S.second S.sums),
+      )
+  promised {r = Err y} G =
+      let q = G.answer in (
+        G,
+        λ x e. split_answer (merge_types Γ Δ n)
+            (λ k p. let is : k ≡ number x = cc in rw (← is) (only_at (merge_refusals Γ Δ n) p))
+            (λ l p. clash (cc)),
+        tt,
+        tt,
+      )

@@ -1,31 +1,31 @@
 -- Words written one behind the other: a copy, the parts of a type, the parts of all types.
-use mathlib.Core.Path.{◌≡◌, refl, sym, ap, ◌∙◌}
-use mathlib.Core.List.{List, [], ◌∷◌, ◌++◌}
-use Prim.Native.Nat.{ℕ, ◌+◌, ◌-◌, ◌<◌}
+use borrow.Rule.Slice.PartMut.{put_mid}
+use mathlib.Core.Path.{◌≡◌, refl, sym, ap, ap₂, ◌∙◌}
+use mathlib.Core.List.{List, [], ◌∷◌, ◌++◌, append_assoc}
+use Prim.Native.Nat.{ℕ, ◌+◌, ◌≤◌}
 use native.Mathlib.Numerals.{add-one}
 use native.Mathlib.Omega.{arith}
-use lib.ListN.{length, drop, set, length-drop, length-append}
+use lib.ListN.{length, take, drop, set, length-drop, length-append}
 use lib.Seq.{sets, take_all}
-use Rattle.model.specs.Words.{word, sum}
+use Rattle.std.proofs.Common.{drop-drop}
+use Rattle.std.proofs.lemmas.List.Edits.{sets-eq}
+use Rattle.model.specs.Words.{sum}
 use Rattle.model.specs.Types.{ntypes, nparts, count, offset}
 use Rattle.model.specs.Merge.{kinds, counts, all_parts, moved_part, moved_parts, moved_below, heads, merged}
 use Rattle.base.specs.Below.{sum_suc}
 use Rattle.base.specs.Words.{sets_append}
 use Rattle.base.specs.Typed.{Typed}
-use Rattle.records.specs.Window.{window, window_snoc, window_long}
+use Rattle.records.specs.Window.{window}
 use Rattle.moved.specs.Merged.{kinds_long, counts_long, all_parts_long, moved_parts_long, moved_below_long}
 
 -- some words more
 words_put : (l : List ℕ) (i k : ℕ) (vs ws : List ℕ) {m m' : List ℕ} → length vs ≡ k → m ≡ sets l i vs → m' ≡ sets m (i + k) ws → m' ≡ sets l i (vs ++ ws)
 words_put l i k vs ws e p q = q ∙ rw (p, ← e) (sym (sets_append l i vs ws))
 
--- A COPY
-
--- one word more of it
-pub copy_one : (l : List ℕ) (at : ℕ) (ws : List ℕ) (i k : ℕ) {m : List ℕ} → i + k < length ws → m ≡ sets l at (window ws i k)
-    → set m (at + k) (word ws (i + k)) ≡ sets l at (window ws i (k + 1))
-copy_one l at ws i k h p =
-    words_put l at k (window ws i k) (word ws (i + k) ∷ []) (window_long ws i k (omega arith)) p refl ∙ ap (sets l at) (sym (window_snoc ws i 0 k h))
+-- A COPY: ws is put over the k words from `at` on
+pub copy_put : (l vs ws : List ℕ) (at k : ℕ) → ws ≡ vs → k ≡ length vs → at + length vs ≤ length l → put_mid at k l ws ≡ sets l at vs
+copy_put l vs ws at k e d h =
+    rw (sets-eq vs l at h, append_assoc) (ap₂ (λ (x y : List ℕ). take at l ++ (x ++ y)) e (drop-drop k at l ∙ ap (λ (j : ℕ). drop (at + j) l) d))
 
 -- PARTS
 
@@ -78,23 +78,19 @@ offset_one Γ t = ap (offset Γ) (add-one t) ∙ sum_suc (count Γ) t
 
 -- BOTH RECORDS
 
-module _ {Γ Δ : List ℕ} (g : Typed Γ) (d : Typed Δ) {a b : ℕ} (p : a ≡ ntypes Γ) (q : b ≡ ntypes Δ) where
-  -- kinds and counts; a, b: the types of each
-  pub heads_put : (l : List ℕ) {m m₂ m₃ m₄ : List ℕ} {i j k : ℕ} → m ≡ sets l 2 (window Γ 2 a) → i ≡ 2 + a → m₂ ≡ sets m i (window Δ 2 b) → j ≡ i + b
-      → m₃ ≡ sets m₂ j (window Γ (2 + a) a) → k ≡ j + a → m₄ ≡ sets m₃ k (window Δ (2 + b) b) → m₄ ≡ sets l 2 (heads Γ Δ)
-  unfolding heads kinds counts
-  heads_put l {m} {m₂} {m₃} {m₄} {i} {j} {k} e ei e₂ ej e₃ ek e₄ =
-      let K : length (kinds Γ) ≡ a = kinds_long g ∙ sym p in
-      let C : length (counts Γ) ≡ a = counts_long g ∙ sym p in
-      let both : length (kinds Γ ++ kinds Δ) ≡ a + b = length-append (kinds Γ) (kinds Δ) ∙ omega (arith, K, kinds_long d) in
-      let first : m ≡ sets l 2 (kinds Γ) = rw p at e in
-      let second : m₂ ≡ sets m (2 + a) (kinds Δ) = rw (ei, q) at e₂ in
-      let third : m₃ ≡ sets m₂ j (counts Γ) = rw p at e₃ in
-      let fourth : m₄ ≡ sets m₃ (j + a) (counts Δ) = rw (ek, q) at e₄ in
-      let heading : m₂ ≡ sets l 2 (kinds Γ ++ kinds Δ) = words_put l 2 a (kinds Γ) (kinds Δ) K first second in
-      let counting : m₄ ≡ sets m₂ j (counts Γ ++ counts Δ) = words_put m₂ j a (counts Γ) (counts Δ) C third fourth in
-      let z : j ≡ 2 + (a + b) = omega arith in
-      words_put l 2 (a + b) (kinds Γ ++ kinds Δ) (counts Γ ++ counts Δ) both heading (rw z at counting)
+-- kinds and counts
+pub heads_put : {Γ Δ : List ℕ} (g : Typed Γ) (d : Typed Δ) (l : List ℕ) {m m₂ m₃ m₄ : List ℕ} {i j k : ℕ} → m ≡ sets l 2 (window Γ 2 (ntypes Γ)) → i ≡ 2 + ntypes Γ
+    → m₂ ≡ sets m i (window Δ 2 (ntypes Δ)) → j ≡ i + ntypes Δ → m₃ ≡ sets m₂ j (window Γ (2 + ntypes Γ) (ntypes Γ)) → k ≡ j + ntypes Γ
+    → m₄ ≡ sets m₃ k (window Δ (2 + ntypes Δ) (ntypes Δ)) → m₄ ≡ sets l 2 (heads Γ Δ)
+unfolding heads kinds counts
+heads_put {Γ} {Δ} g d l {m} {m₂} {m₃} {m₄} {i} {j} {k} e ei e₂ ej e₃ ek e₄ =
+    let both : length (kinds Γ ++ kinds Δ) ≡ ntypes Γ + ntypes Δ = length-append (kinds Γ) (kinds Δ) ∙ omega (arith, kinds_long g, kinds_long d) in
+    let second : m₂ ≡ sets m (2 + ntypes Γ) (kinds Δ) = rw ei at e₂ in
+    let fourth : m₄ ≡ sets m₃ (j + ntypes Γ) (counts Δ) = rw ek at e₄ in
+    let heading : m₂ ≡ sets l 2 (kinds Γ ++ kinds Δ) = words_put l 2 (ntypes Γ) (kinds Γ) (kinds Δ) (kinds_long g) e second in
+    let counting : m₄ ≡ sets m₂ j (counts Γ ++ counts Δ) = words_put m₂ j (ntypes Γ) (counts Γ) (counts Δ) (counts_long g) e₃ fourth in
+    let z : j ≡ 2 + (ntypes Γ + ntypes Δ) = omega arith in
+    words_put l 2 (ntypes Γ + ntypes Δ) (kinds Γ ++ kinds Δ) (counts Γ ++ counts Δ) both heading (rw z at counting)
 
 module _ {Γ : List ℕ} (g : Typed Γ) where
   -- the first's parts are the last words of its record
@@ -102,15 +98,15 @@ module _ {Γ : List ℕ} (g : Typed Γ) where
   unfolding all_parts
   parts_window = take_all (nparts Γ) (drop (2 + ntypes Γ + ntypes Γ) Γ) (omega (arith, length-drop (2 + ntypes Γ + ntypes Γ) Γ, g.long))
 
-  -- all of it; a: the first's types
-  pub merged_put : (Δ : List ℕ) {a : ℕ} → a ≡ ntypes Γ → (l : List ℕ) {m m₂ m₃ m₄ : List ℕ} {i j k : ℕ} → m ≡ sets l 0 ((ntypes Γ + ntypes Δ) ∷ (nparts Γ + nparts Δ) ∷ [])
-      → m₂ ≡ sets m 2 (heads Γ Δ) → i ≡ 2 + length (heads Γ Δ) → k ≡ nparts Γ → m₃ ≡ sets m₂ i (window Γ (2 + a + a) k) → j ≡ i + k
-      → m₄ ≡ sets m₃ j (moved_below a Δ (ntypes Δ)) → m₄ ≡ sets l 0 (merged Γ Δ)
+  -- all of it
+  pub merged_put : (Δ : List ℕ) (l : List ℕ) {m m₂ m₃ m₄ : List ℕ} {i j : ℕ} → m ≡ sets l 0 ((ntypes Γ + ntypes Δ) ∷ (nparts Γ + nparts Δ) ∷ [])
+      → m₂ ≡ sets m 2 (heads Γ Δ) → i ≡ 2 + length (heads Γ Δ) → m₃ ≡ sets m₂ i (window Γ (2 + ntypes Γ + ntypes Γ) (nparts Γ)) → j ≡ i + nparts Γ
+      → m₄ ≡ sets m₃ j (moved_below (ntypes Γ) Δ (ntypes Δ)) → m₄ ≡ sets l 0 (merged Γ Δ)
   unfolding merged
-  merged_put Δ {a} p l {m} {m₂} {m₃} {m₄} {i} {j} {k} e e₂ ei ek e₃ ej e₄ =
+  merged_put Δ l {m} {m₂} {m₃} {m₄} {i} {j} e e₂ ei e₃ ej e₄ =
       let rest : List ℕ = moved_below (ntypes Γ) Δ (ntypes Δ) in
-      let third : m₃ ≡ sets m₂ i (all_parts Γ) = rw (p, ek, parts_window) at e₃ in
-      let fourth : m₄ ≡ sets m₃ (i + nparts Γ) rest = rw (p, ej, ek) at e₄ in
+      let third : m₃ ≡ sets m₂ i (all_parts Γ) = rw parts_window at e₃ in
+      let fourth : m₄ ≡ sets m₃ (i + nparts Γ) rest = rw ej at e₄ in
       let parts : m₄ ≡ sets m₂ i (all_parts Γ ++ rest) = words_put m₂ i (nparts Γ) (all_parts Γ) rest (all_parts_long g) third fourth in
       let behind : m₄ ≡ sets m 2 (heads Γ Δ ++ (all_parts Γ ++ rest)) = words_put m 2 (length (heads Γ Δ)) (heads Γ Δ) (all_parts Γ ++ rest) refl e₂ (rw ei at parts) in
       words_put l 0 2 ((ntypes Γ + ntypes Δ) ∷ (nparts Γ + nparts Δ) ∷ []) (heads Γ Δ ++ (all_parts Γ ++ rest)) refl e behind

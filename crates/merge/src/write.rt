@@ -1,4 +1,4 @@
-// The merged record, written word by word: sizes; kinds, counts and parts, each of both.
+// The merged record, written from the front: sizes; kinds, counts and parts, each of both.
 ghost use Rattle.std.specs.Prelude.{◌≡◌, true, ◌&&◌, [], ◌∷◌, ◌+◌, ◌≤◌, ◌<◌, length, eqb};
 ghost use Rattle.std.proofs.lemmas.List.Edits.{sets};
 ghost use Rattle.model.specs.Types.{ntypes, nparts, kind, count, types_ok};
@@ -8,7 +8,8 @@ ghost use Rattle.type_record.specs.Sizes.{Sized, Ready};
 
 use crate::sizes::both;
 use statements::small;
-use type_record::record::{count_of, kind_of, part_at, wide};
+use type_record::kinds::Kind;
+use type_record::record::{count_of, kind_at, part_at};
 
 // n words from word i on, as they are; where the next go.
 fn copy(out: &mut [u32], at: usize, words: &[u32], i: usize, n: usize) -> usize
@@ -17,27 +18,22 @@ fn copy(out: &mut [u32], at: usize, words: &[u32], i: usize, n: usize) -> usize
     ensures out_value { out.new ≡ sets out.old at (window words.now i n) }
     ensures next { result ≡ at + n }
 {
-    let mut k = 0;
-    while k < n {
-        out[at + k] = words[i + k];
-        k += 1;
-    }
+    out[at..at + n].copy_from_slice(&words[i..i + n]);
     at + n
 }
 
 // Is part j of the type t a discriminant, and no type's number?
+#[tactic(auto, using(crate::proofs::Sized::variant_first, crate::proofs::Sized::no_variant))]
 fn is_value(types: &[u32], t: usize, j: usize) -> bool
     requires sized { Sized types.now }
     requires t_bound { t < ntypes types.now }
     ensures { result ≡ eqb (kind types.now t) 8 && eqb j 0 }
 {
-    if kind_of(types, t) != 8 {
-        return false;
-    }
-    j == 0
+    kind_at(types, t) == Kind::Variant && j == 0
 }
 
 // Part j of the type t, moved up by n.
+#[tactic(auto, using(type_record::proofs::Inside::ok_counted, crate::proofs::Sized::all_sized))]
 fn moved_part(types: &[u32], offs: &[u32], n: usize, t: usize, j: usize) -> u32
     requires ready { Ready types.now offs.now }
     requires n_bound { n ≤ 4096 }
@@ -47,12 +43,14 @@ fn moved_part(types: &[u32], offs: &[u32], n: usize, t: usize, j: usize) -> u32
 {
     let p = part_at(types, offs, t, j);
     if is_value(types, t, j) {
-        return small(p);
+        small(p)
+    } else {
+        small(n + p)
     }
-    small(n + p)
 }
 
 // The parts of the type t, moved.
+#[tactic(auto, using(crate::proofs::Sized::all_sized, crate::proofs::Putting::no_parts, crate::proofs::Putting::part_one))]
 fn put_parts(out: &mut [u32], at: usize, types: &[u32], offs: &[u32], n: usize, t: usize) -> usize
     requires ready { Ready types.now offs.now }
     requires n_bound { n ≤ 4096 }
@@ -62,31 +60,28 @@ fn put_parts(out: &mut [u32], at: usize, types: &[u32], offs: &[u32], n: usize, 
     ensures next { result ≡ at + count types.now t }
 {
     let c = count_of(types, t);
-    let mut j = 0;
-    while j < c {
+    for j in 0..c {
         out[at + j] = moved_part(types, offs, n, t, j);
-        j += 1;
     }
     at + c
 }
 
 // The parts of all types, moved.
+#[tactic(auto, using(crate::proofs::Sized::words_in, crate::proofs::Putting::no_types, crate::proofs::Putting::type_one, crate::proofs::Putting::offset_none, crate::proofs::Putting::offset_one))]
 fn put_types(out: &mut [u32], at: usize, types: &[u32], offs: &[u32], n: usize)
     requires ready { Ready types.now offs.now }
     requires n_bound { n ≤ 4096 }
     requires types_in_bounds { at + nparts types.now ≤ length out.old }
     ensures { out.new ≡ sets out.old at (moved_below n types.now (ntypes types.now)) }
 {
-    let m = wide(types[0]);
     let mut q = at;
-    let mut t = 0;
-    while t < m {
+    for t in 0..types[0] as usize {
         q = put_parts(out, q, types, offs, n, t);
-        t += 1;
     }
 }
 
 // Kinds and counts of both, behind the sizes; where the parts go.
+#[tactic(auto, using(crate::proofs::Sized::words_in, crate::proofs::Sized::heads_words))]
 fn put_heads(out: &mut [u32], first: &[u32], second: &[u32]) -> usize
     requires first_value { types_ok first.now ≡ true }
     requires second_value { types_ok second.now ≡ true }
@@ -94,8 +89,8 @@ fn put_heads(out: &mut [u32], first: &[u32], second: &[u32]) -> usize
     ensures out_value { out.new ≡ sets out.old 2 (heads first.now second.now) }
     ensures next { result ≡ 2 + length (heads first.now second.now) }
 {
-    let a = wide(first[0]);
-    let b = wide(second[0]);
+    let a = first[0] as usize;
+    let b = second[0] as usize;
     let i = copy(out, 2, first, 2, a);
     let j = copy(out, i, second, 2, b);
     let k = copy(out, j, first, 2 + a, a);
@@ -103,6 +98,7 @@ fn put_heads(out: &mut [u32], first: &[u32], second: &[u32]) -> usize
 }
 
 // The sizes: types and parts of both.
+#[tactic(auto, using(crate::proofs::Sized::types_few, crate::proofs::Sized::parts_few))]
 fn put_sizes(out: &mut [u32], first: &[u32], second: &[u32])
     requires first_value { types_ok first.now ≡ true }
     requires second_value { types_ok second.now ≡ true }
@@ -114,6 +110,7 @@ fn put_sizes(out: &mut [u32], first: &[u32], second: &[u32])
 }
 
 // All of it. offs has the offsets of the second's parts.
+#[tactic(auto, using(crate::proofs::Sized::words_in, crate::proofs::Sized::types_few, crate::proofs::Sized::heads_words, crate::proofs::Sized::merged_words))]
 pub fn write(out: &mut [u32], first: &[u32], second: &[u32], offs: &[u32])
     requires first_value { types_ok first.now ≡ true }
     requires ready { Ready second.now offs.now }
@@ -122,8 +119,8 @@ pub fn write(out: &mut [u32], first: &[u32], second: &[u32], offs: &[u32])
 {
     put_sizes(out, first, second);
     let i = put_heads(out, first, second);
-    let n = wide(first[0]);
-    let p = wide(first[1]);
+    let n = first[0] as usize;
+    let p = first[1] as usize;
     let j = copy(out, i, first, 2 + n + n, p);
     put_types(out, j, second, offs, n);
 }

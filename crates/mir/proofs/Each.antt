@@ -1,22 +1,18 @@
--- One turn of a loop that tests every number below n. Assumes nothing.
-use mathlib.Core.Path.{◌≡◌, refl, ◌∙◌, ap}
-use mathlib.Core.Bool.{Bool, true}
-use Prim.Native.Nat.{ℕ, ◌+◌, ◌≤◌}
-use native.Mathlib.Nat.{le_antisymm}
-use native.Mathlib.Numerals.{add-one}
+-- What `all` over a slice answers. Assumes nothing.
+use mathlib.Core.Path.{◌≡◌, sym}
+use mathlib.Core.Bool.{Bool, true, false}
+use mathlib.Core.List.{List}
+use Prim.Native.Nat.{ℕ, ◌<◌}
+use native.Mathlib.Omega.{arith}
+use lib.ListN.{length, get_or}
+use Rattle.std.specs.Bool.{MatchBool}
+use Rattle.std.specs.List.{AllWithin, HoldsAt}
 use Rattle.model.specs.Words.{all}
-use Rattle.base.specs.Below.{all_suc}
+use Rattle.base.specs.Below.{all_of, all_fails}
 
-module _ (p : ℕ → Bool) where
-  -- none is tested yet
-  pub all_none : all p 0 ≡ true
-  unfolding all
-  all_none = refl
-
-  -- one more passes
-  pub all_next : {i : ℕ} → all p i ≡ true → p i ≡ true → all p (i + 1) ≡ true
-  all_next {i} e d = ap (all p) (add-one i) ∙ all_suc p i e ∙ d
-
-  -- none is left
-  pub all_done : {i n : ℕ} → all p i ≡ true → i ≤ n → n ≤ i → all p n ≡ true
-  all_done e h l = ap (all p) (le_antisymm l h) ∙ e
+-- the words of a slice are tested, each by P
+pub all_read : (P : ℕ → Bool) (xs : List ℕ) (r : Bool)
+    → MatchBool r (AllWithin (λ x. P x ≡ true) xs 0 (length xs)) ((k : ℕ) × (k < length xs) × HoldsAt (λ x. P x ≡ false) xs k)
+    → r ≡ all (λ i. P (get_or xs i 0)) (length xs)
+all_read P xs true h = sym (all_of _ (length xs) (λ i l. h i 0 (omega arith) l))
+all_read P xs false h = sym (all_fails _ (length xs) h.0 h.1 (h.2 0))

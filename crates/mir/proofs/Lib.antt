@@ -3,7 +3,7 @@
 pub mod Follows
 -- the test of the sizes, as the facts that it tests
 pub mod Sizes
--- one turn of a loop that tests every number below n
+-- what `all` over a slice answers
 pub mod Each
 -- one turn of the walk over the items
 pub mod Turns

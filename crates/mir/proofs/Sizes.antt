@@ -1,14 +1,14 @@
 -- The test of a function record's sizes, as the facts that it tests; and the sizes of a type record that passes. Assumes nothing.
 use mathlib.Core.Path.{◌≡◌}
-use mathlib.Core.Bool.{Bool, true, false, ◌&&◌}
+use mathlib.Core.Bool.{Bool, true, ◌&&◌}
 use mathlib.Core.List.{List}
-use Prim.Native.Nat.{ℕ, ◌+◌, ◌≤◌, ◌<◌}
+use Prim.Native.Nat.{ℕ, ◌+◌}
 use lib.Dec.{eqb, ltb, leb}
 use lib.ListN.{length}
-use borrow.Author.Tests.{leb-true, ltb-true, eqb-true, le-leb, lt-ltb}
+use borrow.Author.Tests.{leb-true, ltb-true, eqb-true}
 use Rattle.model.specs.Types.{types_ok}
 use Rattle.model.specs.Function.{nlocals, nargs, nblocks, nitems, function_sizes}
-use Rattle.base.specs.Tests.{split, and_left, and_right}
+use Rattle.base.specs.Tests.{and_left, and_right}
 use Rattle.base.specs.Typed.{Typed, types_typed}
 use Rattle.type_record.specs.Sizes.{Sized}
 use Rattle.mir.specs.Sizes.{Laid}
@@ -45,21 +45,3 @@ module _ (fn : List ℕ) where
         most_items = leb-true (nitems fn) 16384 (and_right (a && b && c && d && f) g e6);
         whole = eqb-true (length fn) _ (and_right (a && b && c && d && f && g) h e);
       }
-
-  -- one that is not does not pass
-  pub sizes_fail : (Laid fn → ⊥) → function_sizes fn ≡ false
-  sizes_fail h = split (function_sizes fn) (λ e. absurd (h (sizes_laid e))) (λ e. e)
-
-  -- all but the length passes: the length decides
-  pub sizes_whole : 1 ≤ nlocals fn → nlocals fn ≤ 256 → nargs fn < nlocals fn → 1 ≤ nblocks fn → nblocks fn ≤ 256 → nitems fn ≤ 16384
-      → function_sizes fn ≡ eqb (length fn) (4 + nlocals fn + nblocks fn + nblocks fn + nitems fn + nitems fn)
-  unfolding function_sizes
-  sizes_whole a b c d f g =
-      simp (
-        le-leb 1 (nlocals fn) a,
-        le-leb (nlocals fn) 256 b,
-        lt-ltb (nargs fn) (nlocals fn) c,
-        le-leb 1 (nblocks fn) d,
-        le-leb (nblocks fn) 256 f,
-        le-leb (nitems fn) 16384 g,
-      )

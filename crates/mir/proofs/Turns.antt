@@ -1,15 +1,13 @@
 -- One turn of the walk over the items: what is left of it before item i, and behind it. Assumes nothing.
 use mathlib.Core.Path.{◌≡◌}
-use mathlib.Core.Logic.{◌⊎◌, ⊎_elim}
-use mathlib.Core.Bool.{true, false, ◌||◌}
+use mathlib.Core.Bool.{true, false}
 use mathlib.Core.List.{List}
 use Prim.Native.Nat.{ℕ, suc, ◌+◌, ◌-◌, ◌≤◌, ◌<◌}
 use native.Mathlib.Numerals.{add-one}
 use native.Mathlib.Omega.{arith}
 use lib.Dec.{eqb}
-use borrow.Author.Tests.{ne_eqb}
 use Rattle.model.specs.Function.{op, after, items_from}
-use Rattle.mir.specs.Parts.{begins, item_ok}
+use Rattle.mir.specs.Parts.{begins, may_begin, item_ok}
 
 -- What is left of the walk before item i, with b blocks begun: the item is tested behind `before'`, and b' blocks are begun then
 pub record Turn (fn : List ℕ) (n i b before b' before' : ℕ) : Type 0 where
@@ -28,15 +26,14 @@ module _ (fn : List ℕ) (n i b before : ℕ) where
   items_over h = let e : n - i ≡ 0 = omega arith in rw e
 
   -- a block begins where the one before has not ended
-  pub items_torn : i < n → begins fn b i ≡ true → (before ≡ 0 → ⊥) → (before ≡ 8 → ⊥) → items_from fn (n - i) i b before ≡ false
-  unfolding items_from begins
-  items_torn h e p q = cc (more h, ne_eqb before 0 p, ne_eqb before 8 q)
+  pub items_torn : i < n → begins fn b i ≡ true → may_begin before ≡ false → items_from fn (n - i) i b before ≡ false
+  unfolding items_from begins may_begin
+  items_torn h e p = cc (more h)
 
   -- a block begins at item i
-  pub turn_begun : {b' before' : ℕ} → i < n → begins fn b i ≡ true → (before ≡ 0) ⊎ (before ≡ 8) → b' ≡ b + 1 → before' ≡ 2 → Turn fn n i b before b' before'
-  unfolding items_from begins item_ok
+  pub turn_begun : {b' before' : ℕ} → i < n → begins fn b i ≡ true → may_begin before ≡ true → b' ≡ b + 1 → before' ≡ 2 → Turn fn n i b before b' before'
+  unfolding items_from begins may_begin item_ok
   turn_begun {b'} {before'} h e o p q =
-      let z : eqb before 0 || eqb before 8 ≡ true = ⊎_elim (λ d. cc) (λ d. cc) o in
       record { counted = omega arith; passes = λ d. cc (more h, add-one i, add-one b); fails = λ d. cc (more h) }
 
   -- none begins there

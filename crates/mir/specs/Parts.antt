@@ -1,5 +1,5 @@
 -- Parts of a function record: the items from i up to j, and tests that the code makes one by one.
-use Rattle.std.specs.Prelude.{◌≡◌, Bool, true, false, not, ◌&&◌, List, ℕ, ◌+◌, ◌-◌, take, drop, eqb, ltb}
+use Rattle.std.specs.Prelude.{◌≡◌, Bool, true, false, not, ◌&&◌, ◌||◌, List, ℕ, ◌+◌, ◌-◌, take, drop, eqb, ltb}
 use Rattle.std.proofs.Math.Option.{Option, none, some}
 use Rattle.model.specs.Types.{ntypes, kind}
 use Rattle.model.specs.Place.{Spot}
@@ -36,6 +36,10 @@ type_usable Γ t = ltb t (ntypes Γ) && not (eqb (kind Γ t) 8)
 -- is item i the first of the block b?
 unfoldable pub begins : List ℕ → ℕ → ℕ → Bool
 begins fn b i = ltb b (nblocks fn) && eqb i (start fn b)
+
+-- may a block begin behind this? Where the entry part is over, or the block before has ended
+unfoldable pub may_begin : ℕ → Bool
+may_begin before = eqb before 0 || eqb before 8
 
 unfoldable pub item_ok : List ℕ → ℕ → ℕ → Bool
 item_ok fn i before = may_follow before (op fn i) && arg_ok fn i

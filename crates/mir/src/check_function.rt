@@ -6,13 +6,14 @@ ghost use Rattle.model.specs.Function.{nblocks, nitems, may_follow, after, arg_o
 ghost use Rattle.base.specs.Ranges.{Range};
 ghost use Rattle.type_record.specs.Sizes.{Sized};
 ghost use Rattle.mir.specs.Sizes.{Laid};
-ghost use Rattle.mir.specs.Parts.{type_usable, begins, item_ok};
+ghost use Rattle.mir.specs.Parts.{type_usable, begins, may_begin, item_ok};
 
 use crate::function::{arg_of, local_types, nblocks, nitems, op_of, rank_of, start_of, stop_of};
 use crate::items::{
     ARM, DEREF, DOWNCAST, FIELD, INDEX, NOTE, READ, ROOT, STOP, SWITCH, TARGET, USE,
 };
-use type_record::record::{kind_of, wide};
+use type_record::kinds::Kind;
+use type_record::record::kind_at;
 
 pub const MOST_LOCALS: usize = 256;
 
@@ -22,6 +23,7 @@ pub const MOST_ITEMS: usize = 16384;
 
 // What stands before an item: 0 the entry part, 1 a place in it, 2 a block's begin, or a use or note, 3 a place, 4 a read,
 // 5 the place of a note, 6 a switch, or an arm's target, 7 an arm, 8 the block's end.
+// Kept: numbers, since `may_follow` and `after` answer for any two.
 
 // A place begins in the entry part, at a block's begin, behind a use, a note or a read; its elements follow it.
 fn place_follows(before: u32, next: u32) -> bool
@@ -29,14 +31,8 @@ fn place_follows(before: u32, next: u32) -> bool
     ensures { result ≡ may_follow before next }
 {
     match next {
-        ROOT => match before {
-            0 | 2 | 4 => true,
-            _ => false,
-        },
-        _ => match before {
-            1 | 3 | 5 => true,
-            _ => false,
-        },
+        ROOT => matches!(before, 0 | 2 | 4),
+        _ => matches!(before, 1 | 3 | 5),
     }
 }
 
@@ -46,10 +42,7 @@ fn action_follows(before: u32, next: u32) -> bool
     ensures { result ≡ may_follow before next }
 {
     match next {
-        USE => match before {
-            1 | 3 => true,
-            _ => false,
-        },
+        USE => matches!(before, 1 | 3),
         READ => before == 3,
         _ => before == 5,
     }
@@ -62,15 +55,9 @@ fn ender_follows(before: u32, next: u32) -> bool
     ensures { result ≡ may_follow before next }
 {
     match next {
-        SWITCH => match before {
-            2 | 3 => true,
-            _ => false,
-        },
+        SWITCH => matches!(before, 2 | 3),
         ARM => before == 6,
-        TARGET => match before {
-            2 | 6 | 7 => true,
-            _ => false,
-        },
+        TARGET => matches!(before, 2 | 6 | 7),
         _ => before == 2,
     }
 }
@@ -88,6 +75,7 @@ pub fn may_follow(before: u32, next: u32) -> bool
     }
 }
 
+#[tactic(auto, unfolding(model::specs::Function::after))]
 fn after_root(before: u32) -> u32
     ensures { result ≡ after before 0 }
 {
@@ -98,35 +86,29 @@ fn after_root(before: u32) -> u32
     }
 }
 
+#[tactic(auto, unfolding(model::specs::Function::after))]
 fn after_action(before: u32, op: u32) -> u32
     requires { Range 5 op 7 }
     ensures { result ≡ after before op }
 {
-    if op == READ {
-        return 4;
+    match op {
+        READ => 4,
+        USE if before == 1 => 0,
+        _ => 2,
     }
-    if op == NOTE {
-        return 2;
-    }
-    if before == 1 { 0 } else { 2 }
 }
 
+#[tactic(auto, unfolding(model::specs::Function::after))]
 fn after_ender(before: u32, op: u32) -> u32
     requires { 8 ≤ op }
     ensures { result ≡ after before op }
 {
-    if op == SWITCH {
-        return 6;
+    match op {
+        SWITCH => 6,
+        ARM => 7,
+        TARGET if before == 7 => 6,
+        _ => 8,
     }
-    if op == ARM {
-        return 7;
-    }
-    if op == TARGET {
-        if before == 7 {
-            return 6;
-        }
-    }
-    8
 }
 
 // What stands before the item behind this one: place items, actions, enders.
@@ -142,164 +124,133 @@ pub fn after(before: u32, op: u32) -> u32
 }
 
 // An arg not named is 0, and a target is below B.
+#[tactic(auto, unfolding(model::specs::Function::arg_ok))]
 fn arg_ok(fun: &[u32], i: usize) -> bool
     requires laid { Laid fun.now }
     requires i_bound { i < nitems fun.now }
     ensures { result ≡ arg_ok fun.now i }
 {
-    let o = op_of(fun, i);
     let a = arg_of(fun, i);
-    match o {
-        TARGET => wide(a) < nblocks(fun),
+    match op_of(fun, i) {
+        TARGET => (a as usize) < nblocks(fun),
         ROOT | FIELD | DOWNCAST | ARM => true,
         _ => a == 0,
     }
 }
 
+#[tactic(auto, unfolding(model::specs::Function::function_sizes))]
 fn function_sizes(fun: &[u32]) -> bool
     ensures { result ≡ function_sizes fun.now }
 {
-    let n = fun.len();
-    if n < 4 {
+    if fun.len() < 4 {
         return false;
     }
-    let l = wide(fun[0]);
-    let a = wide(fun[1]);
-    let b = wide(fun[2]);
-    let i = wide(fun[3]);
-    if l < 1 {
-        return false;
-    }
-    if MOST_LOCALS < l {
-        return false;
-    }
-    if l <= a {
-        return false;
-    }
-    if b < 1 {
-        return false;
-    }
-    if MOST_BLOCKS < b {
-        return false;
-    }
-    if MOST_ITEMS < i {
-        return false;
-    }
-    n == 4 + l + b + b + i + i
+    let l = fun[0] as usize;
+    let a = fun[1] as usize;
+    let b = fun[2] as usize;
+    let i = fun[3] as usize;
+    1 <= l
+        && l <= MOST_LOCALS
+        && a < l
+        && 1 <= b
+        && b <= MOST_BLOCKS
+        && i <= MOST_ITEMS
+        && fun.len() == 4 + l + b + b + i + i
 }
 
+#[tactic(auto, unfolding(crate::specs::Parts::type_usable))]
 fn local_ok(types: &[u32], t: u32) -> bool
     requires { Sized types.now }
     ensures { result ≡ type_usable types.now t }
 {
-    let n = types[0];
-    if n <= t {
-        return false;
-    }
-    kind_of(types, wide(t)) != 8
+    t < types[0] && kind_at(types, t as usize) != Kind::Variant
 }
 
 // 1 to 256 local types, each below T and no variant.
+#[tactic(auto, unfolding(model::specs::State::locals_ok))]
 pub fn locals_ok(types: &[u32], locals: &[u32]) -> bool
     requires { Sized types.now }
     ensures { result ≡ locals_ok types.now locals.now }
 {
-    let n = locals.len();
-    if n < 1 {
-        return false;
-    }
-    if MOST_LOCALS < n {
-        return false;
-    }
-    let mut l = 0;
-    while l < n {
-        if !local_ok(types, locals[l]) {
-            return false;
-        }
-        l += 1;
-    }
-    true
+    1 <= locals.len() && locals.len() <= MOST_LOCALS && locals.iter().all(|t| local_ok(types, *t))
 }
 
 // Starts rise strictly and lie below I.
+#[tactic(auto, unfolding(model::specs::Function::starts_ok))]
 fn starts_ok(fun: &[u32]) -> bool
     requires { Laid fun.now }
     ensures { result ≡ starts_ok fun.now }
 {
-    let n = nblocks(fun);
-    let m = nitems(fun);
-    let mut b = 0;
-    while b < n {
+    let n = nitems(fun);
+    for b in 0..nblocks(fun) {
         let s = start_of(fun, b);
         if stop_of(fun, b) <= s {
             return false;
         }
-        if m <= s {
+        if n <= s {
             return false;
         }
-        b += 1;
     }
     true
 }
 
 // Ranks are 0 to B - 1, each once: seen marks those of the blocks before.
+#[tactic(auto, unfolding(model::specs::Function::ranks_ok))]
 fn ranks_ok(fun: &[u32]) -> bool
     requires { Laid fun.now }
     ensures { result ≡ ranks_ok fun.now }
 {
     let n = nblocks(fun);
-    let mut seen = [0u8; 256];
-    let mut b = 0;
-    while b < n {
+    let mut seen = [false; 256];
+    for b in 0..n {
         let r = rank_of(fun, b);
         if n <= r {
             return false;
         }
-        if seen[r] != 0 {
+        if seen[r] {
             return false;
         }
-        seen[r] = 1;
-        b += 1;
+        seen[r] = true;
     }
     true
 }
 
 // Is item i the first of the block b?
+#[tactic(auto, unfolding(crate::specs::Parts::begins))]
 fn begins(fun: &[u32], b: usize, i: usize) -> bool
     requires { Laid fun.now }
     ensures { result ≡ begins fun.now b i }
 {
-    if b < nblocks(fun) {
-        return start_of(fun, b) == i;
-    }
-    false
+    b < nblocks(fun) && start_of(fun, b) == i
 }
 
+// May a block begin behind this? Where the entry part is over, or the block before has ended.
+#[tactic(auto, unfolding(crate::specs::Parts::may_begin))]
+fn may_begin(before: u32) -> bool
+    ensures { result ≡ may_begin before }
+{
+    matches!(before, 0 | 8)
+}
+
+#[tactic(auto, unfolding(crate::specs::Parts::item_ok))]
 fn item_ok(fun: &[u32], i: usize, before: u32) -> bool
     requires laid { Laid fun.now }
     requires i_bound { i < nitems fun.now }
     ensures { result ≡ item_ok fun.now i before }
 {
-    if !may_follow(before, op_of(fun, i)) {
-        return false;
-    }
-    arg_ok(fun, i)
+    may_follow(before, op_of(fun, i)) && arg_ok(fun, i)
 }
 
 fn items_ok(fun: &[u32]) -> bool
     requires { Laid fun.now }
     ensures { result ≡ items_ok fun.now }
 {
-    let n = nitems(fun);
     let mut before: u32 = 0;
     let mut b = 0;
-    let mut i = 0;
-    while i < n {
+    for i in 0..nitems(fun) {
         if begins(fun, b, i) {
-            if before != 0 {
-                if before != 8 {
-                    return false;
-                }
+            if !may_begin(before) {
+                return false;
             }
             before = 2;
             b += 1;
@@ -308,12 +259,12 @@ fn items_ok(fun: &[u32]) -> bool
             return false;
         }
         before = after(before, op_of(fun, i));
-        i += 1;
     }
     before == 8
 }
 
 // The function record passes, over a type record that does.
+#[tactic(auto, unfolding(model::specs::Function::function_ok))]
 pub fn check_function(types: &[u32], fun: &[u32]) -> bool
     requires { types_ok types.now ≡ true }
     ensures { result ≡ function_ok types.now fun.now }
@@ -321,14 +272,5 @@ pub fn check_function(types: &[u32], fun: &[u32]) -> bool
     if !function_sizes(fun) {
         return false;
     }
-    if !locals_ok(types, local_types(fun)) {
-        return false;
-    }
-    if !starts_ok(fun) {
-        return false;
-    }
-    if !ranks_ok(fun) {
-        return false;
-    }
-    items_ok(fun)
+    locals_ok(types, local_types(fun)) && starts_ok(fun) && ranks_ok(fun) && items_ok(fun)
 }

@@ -35,8 +35,8 @@ pub fn is_element(o: u32, a: u32) -> bool
     ensures { result ≡ item_ok o a }
 {
     match o {
-        1 | 4 => a == 0,
-        2 | 3 => true,
+        DEREF | INDEX => a == 0,
+        FIELD | DOWNCAST => true,
         _ => false,
     }
 }

@@ -3,16 +3,15 @@ ghost use Rattle.std.specs.Prelude.{◌≡◌, ◌≤◌, length};
 ghost use Rattle.model.specs.Function.{function_length};
 ghost use Rattle.mir.specs.Framed.{WordAt, Framed};
 
-use type_record::record::wide;
-
 // Word i, or 0 past the end.
 pub fn word(words: &[u32], i: usize) -> usize
     ensures { WordAt words.now i result }
 {
-    if i < words.len() { wide(words[i]) } else { 0 }
+    words.get(i).copied().unwrap_or(0) as usize
 }
 
 // How long the record that begins these words is.
+#[tactic(auto, unfolding(model::specs::Function::function_length))]
 pub fn function_length(words: &[u32]) -> usize
     ensures { result ≡ function_length words.now }
 {
@@ -24,10 +23,6 @@ pub fn record_end(words: &[u32], at: usize) -> usize
     requires { at ≤ length words.now }
     ensures { Framed words.now at result }
 {
-    let n = words.len();
-    let size = function_length(&words[at..n]);
-    if n - at < size {
-        return n;
-    }
-    at + size
+    let rest = &words[at..];
+    at + function_length(rest).min(rest.len())
 }

@@ -1,19 +1,17 @@
 -- Bits of a word: of a disjunction, of a power of two, and the lowest that is set; and of the words of a set.
 use mathlib.Core.Path.{◌≡◌, refl, sym, ap, ◌∙◌}
-use mathlib.Core.Logic.{◌≢◌}
 use mathlib.Core.Bool.{Bool, true, false, cond, not, ◌||◌}
 use mathlib.Core.List.{List, [], ◌∷◌}
 use Prim.Native.Nat.{ℕ, zero, suc, ◌+◌, ◌*◌, ◌-◌, ◌/◌, ◌%◌, ◌^◌, ◌≤◌, ◌<◌, max}
-use native.Mathlib.Nat.{pow-suc, one-mul}
+use native.Mathlib.Nat.{pow-suc}
 use native.Mathlib.Decide.{ℕ_discrete, dec_lt}
 use native.Mathlib.Numerals.{add-one}
 use native.Mathlib.Omega.{arith}
 use lib.Arith.{digits_mod}
 use lib.Bits.{bit_or, bit_xor, differ, or_step, xor_step, or_shr, xor_shr}
 use lib.Count.{count_trailing_zeros, trailing_of_zero}
-use lib.Dec.{eqb, lit<, eqb-zero-suc, eqb-suc-zero, eqb-suc-suc}
+use lib.Dec.{eqb, eqb-zero-suc, eqb-suc-zero, eqb-suc-suc}
 use lib.ListN.{length, drop, replicate}
-use lib.Pow.{shl_exact}
 use lib.Seq.{get_or-set_same, get_or-set_other, drop-cons, drop-length}
 use borrow.Author.Tests.{eq-eqb, ne_eqb, lt-ltb, le-ltb}
 use Rattle.model.specs.Words.{word}
@@ -87,20 +85,6 @@ trailing_low (suc k) w =
     lower : w % 2 ≡ 0 → Least (bit (w / 2)) k (count_trailing_zeros k (w / 2)) → (i : ℕ) → i < suc (count_trailing_zeros k (w / 2)) → bit w i ≡ false
     lower e L zero l = rw e refl
     lower e L (suc i) l = L.under i (omega arith)
-
--- a word of k digits that is not 0 has fewer of them
-pub trailing_below : (k : ℕ) {w : ℕ} → w < 2 ^ k → w ≢ 0 → count_trailing_zeros k w < k
-unfolding count_trailing_zeros
-trailing_below zero l d = absurd (d (omega arith))
-trailing_below (suc k) {w} l d =
-    let p = pow-suc 2 k in
-    digit w
-    (λ e. let i = trailing_below k {w = w / 2} (omega arith) (λ q. d (omega arith)) in rw e (omega arith))
-    (λ e. rw e (omega arith))
-
--- a power of two that fits is shifted to whole
-pub shifted : (i : ℕ) → i < 64 → (1 * 2 ^ i) % 2 ^ 64 ≡ 2 ^ i
-shifted i l = shl_exact {a = 1} 1 i 64 (lit< tt) (omega arith) ∙ one-mul (2 ^ i)
 
 -- THE WORDS OF A SET
 

@@ -9,16 +9,17 @@ use Prim.Native.Nat.{ℕ, ◌<◌}
 use native.Mathlib.Omega.{arith}
 use lib.Dec.{eqb, ltb}
 use lib.ListN.{length, set, replicate, length-set, length-replicate}
+use Rattle.std.specs.Prelude as Code
 use Rattle.model.specs.Rounds.{lowest, put}
+use Rattle.refusal.specs.Refusal.{found}
 use Rattle.base.specs.Tests.{split, set_test}
 use Rattle.base.specs.Each.{Each, each_none, each_more}
 use Rattle.base.specs.Equal.{zero_word}
 use Rattle.solver.specs.Lowest.{lowest_some, lowest_same}
 use Rattle.queue.specs.Bits.{no_bits, Four, put_in, take_out, first_rank}
 use Rattle.queue.specs.Waiting.{Ranking, Inverse, waiting}
-use Rattle.queue.specs.Popped.{Inserts, answered, without, Popping}
+use Rattle.queue.specs.Popped.{Inserts, without, Popping}
 use Rattle.queue.specs.Sequences.{Step, insert, pop, Inside, flagged, cleared, array_answers, bit_rest, bit_answers}
-use Rattle.queue.specs.declared.Popped.{Popped}
 use Rattle.queue.proofs.Waiting.{bit_pops, put_in_inserts, waiting_none}
 
 -- ONE STEP
@@ -100,24 +101,24 @@ module _ {rank : ℕ → ℕ} {n : ℕ} (R : Ranking rank n) where
 -- BY THE CONTRACTS ALONE
 
 -- a row of calls of `insert` and `pop`, each as it promises of the set of waiting blocks, and what they answer
-pub data Calls (rank : ℕ → ℕ) (blocks : List ℕ) (n : ℕ) : List Step → List ℕ → List Popped → Type 0 where
+pub data Calls (rank : ℕ → ℕ) (blocks : List ℕ) (n : ℕ) : List Step → List ℕ → List (Code.Option ℕ) → Type 0 where
   no_call : {bits : List ℕ} → Calls rank blocks n [] bits []
-  inserted : {b : ℕ} {ss : List Step} {bits bits' : List ℕ} {rs : List Popped} → Inserts bits (rank b) bits' → Calls rank blocks n ss bits' rs
+  inserted : {b : ℕ} {ss : List Step} {bits bits' : List ℕ} {rs : List (Code.Option ℕ)} → Inserts bits (rank b) bits' → Calls rank blocks n ss bits' rs
       → Calls rank blocks n (insert b ∷ ss) bits rs
-  popped : {ss : List Step} {bits bits' : List ℕ} {r : Popped} {rs : List Popped} → Popping blocks n bits bits' r → Calls rank blocks n ss bits' rs
+  popped : {ss : List Step} {bits bits' : List ℕ} {r : Code.Option ℕ} {rs : List (Code.Option ℕ)} → Popping blocks n bits bits' r → Calls rank blocks n ss bits' rs
       → Calls rank blocks n (pop ∷ ss) bits (r ∷ rs)
 
 module _ {rank : ℕ → ℕ} {n : ℕ} (R : Ranking rank n) {blocks : List ℕ} (I : Inverse rank n blocks) where
-  calls_agree : {ss : List Step} {bits waits : List ℕ} {rs : List Popped} → Each (Inside n) ss → Calls rank blocks n ss bits rs → Agree R bits waits
-      → rs ≡ map answered (array_answers rank n ss waits)
+  calls_agree : {ss : List Step} {bits waits : List ℕ} {rs : List (Code.Option ℕ)} → Each (Inside n) ss → Calls rank blocks n ss bits rs → Agree R bits waits
+      → map found rs ≡ array_answers rank n ss waits
   unfolding array_answers
   calls_agree each_none no_call A = refl
   calls_agree (each_more l ls) (inserted p c) A = calls_agree ls c (agree_insert R A l (p rank n _ R l refl))
   calls_agree (each_more l ls) (popped p c) A =
       let P = p rank R I in
-      ap₂ ◌∷◌ (P.answer ∙ ap answered (next_same R A)) (calls_agree ls c (agree_pop R A P.rest))
+      ap₂ ◌∷◌ (P.answer ∙ next_same R A) (calls_agree ls c (agree_pop R A P.rest))
 
   -- every row of calls, from words of 0
-  pub calls_answer : {ss : List Step} {rs : List Popped} → Each (Inside n) ss → Calls rank blocks n ss no_bits rs
-      → rs ≡ map answered (array_answers rank n ss (replicate 256 0))
+  pub calls_answer : {ss : List Step} {rs : List (Code.Option ℕ)} → Each (Inside n) ss → Calls rank blocks n ss no_bits rs
+      → map found rs ≡ array_answers rank n ss (replicate 256 0)
   calls_answer E c = calls_agree E c (agree_empty R)

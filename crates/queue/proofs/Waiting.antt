@@ -14,15 +14,15 @@ use Rattle.model.specs.Words.{word}
 use Rattle.model.specs.Function as Function
 use Rattle.model.specs.Function.{nblocks}
 use Rattle.model.specs.Rounds.{lowest, put}
+use Rattle.std.specs.Prelude.{Option, Some, None}
+use Rattle.refusal.specs.Refusal.{found}
 use Rattle.base.specs.Tests.{split, clash, and_right}
 use Rattle.base.specs.Function.{FunctionFacts}
 use Rattle.solver.specs.Lowest.{lowest_empty, lowest_is}
 use Rattle.queue.specs.Bits.{no_bits, Four, has, put_in, take_out, first_rank}
 use Rattle.queue.specs.Waiting.{Ranking, Inverse, waiting}
-use Rattle.queue.specs.Popped.{Inserts, answered, without, Popping}
+use Rattle.queue.specs.Popped.{Inserts, without, Popping}
 use Rattle.queue.specs.Sequences.{bit_popped, bit_rest}
-use Rattle.queue.specs.declared.Popped.{Popped}
-use Rattle.queue.specs.declared.Popped.TheVariants.{Block, Empty}
 use Rattle.queue.proofs.Bits.{has_none, put_in_has, take_out_has, first_low}
 use Rattle.queue.proofs.Ranks.{onto}
 
@@ -120,26 +120,25 @@ put_in_inserts bits r four l rank n b R k e = waiting_put R bits (put_in bits r)
 -- POP
 
 module _ (blocks : List ℕ) (n : ℕ) (bits : List ℕ) (four : Four bits) where
-  bits_popping : Popping blocks n bits (bit_rest n bits) (answered (bit_popped blocks n bits))
-  bits_popping rank R I =
-      let (p, q) = bit_pops R bits four I in
-      record { answer = ap answered p; rest = q }
-
   -- what it promises, of the bits that it leaves and its answer
-  pub record PoppedSo (bits' : List ℕ) (r : Popped) : Type 0 where
+  pub record PoppedSo (bits' : List ℕ) (r : Option ℕ) : Type 0 where
     pub popping : Popping blocks n bits bits' r
     pub words : bits' ≡ bit_rest n bits
-    pub block : r ≡ answered (bit_popped blocks n bits)
+    pub block : found r ≡ bit_popped blocks n bits
 
-  popped_so : {bits' : List ℕ} {r : Popped} → bits' ≡ bit_rest n bits → r ≡ answered (bit_popped blocks n bits) → PoppedSo bits' r
-  popped_so e d = record { popping = rw (e, d) bits_popping; words = e; block = d }
+  popped_so : {bits' : List ℕ} {r : Option ℕ} → bits' ≡ bit_rest n bits → found r ≡ bit_popped blocks n bits → PoppedSo bits' r
+  popped_so e d = record {
+    popping = λ rank R I. let (p, q) = bit_pops R bits four I in rw e (record { answer = d ∙ p; rest = q });
+    words = e;
+    block = d;
+  }
 
   -- no block has the first rank
-  pub pops_nothing : n ≤ first_rank bits → PoppedSo bits Empty
+  pub pops_nothing : n ≤ first_rank bits → PoppedSo bits None
   unfolding bit_popped bit_rest
   pops_nothing h = let e = le-ltb (first_rank bits) n h in popped_so (rw e refl) (rw e refl)
 
   -- one has it
-  pub pops_first : (r m : ℕ) → r ≡ first_rank bits → r < n → m ≡ 2 ^ (r % 64) → PoppedSo (set bits (r / 64) (bit_xor (word bits (r / 64)) m)) (Block (word blocks r))
+  pub pops_first : (r m : ℕ) → r ≡ first_rank bits → r < n → m ≡ 2 ^ (r % 64) → PoppedSo (set bits (r / 64) (bit_xor (word bits (r / 64)) m)) (Some (word blocks r))
   unfolding bit_popped bit_rest take_out
   pops_first r m e l d = let h = lt-ltb (first_rank bits) n (omega arith) in popped_so (rw (h, d, e) refl) (rw (h, e) refl)

@@ -5,7 +5,8 @@
 ghost use Rattle.std.specs.Prelude.{◌≡◌, ◌%◌, ◌^◌, ◌<◌, ◌≤◌, length};
 ghost use Rattle.std.specs.Int.Count.{count_trailing_zeros};
 ghost use Rattle.queue.specs.Bits.{Four, put_in, first_rank};
-ghost use Rattle.queue.specs.Popped.{Inserts, answered, Popping};
+ghost use Rattle.refusal.specs.Refusal.{found};
+ghost use Rattle.queue.specs.Popped.{Inserts, Popping};
 ghost use Rattle.queue.specs.Sequences.{bit_popped, bit_rest};
 
 // The bit of rank r in its word.
@@ -22,8 +23,7 @@ pub fn insert(waits: &mut [u64], r: usize)
     ensures inserts { Inserts waits.old r waits.new }
     ensures words { waits.new ≡ put_in waits.old r }
 {
-    let k = r / 64;
-    waits[k] = waits[k] | mask(r);
+    waits[r / 64] |= mask(r);
 }
 
 // The trailing zeros of a word: below 64 if it isn't 0.
@@ -31,7 +31,7 @@ fn zeros(w: u64) -> usize
     ensures value { result ≡ count_trailing_zeros 64 w }
     ensures below { (w ≡ 0 → ⊥) → result < 64 }
 {
-    u64::trailing_zeros(w) as usize
+    w.trailing_zeros() as usize
 }
 
 // The lowest rank whose bit is set, or 256.
@@ -39,36 +39,27 @@ fn first_rank(waits: &[u64]) -> usize
     requires { Four waits.now }
     ensures { result ≡ first_rank waits.now }
 {
-    let mut k = 0;
-    while k < 4 {
-        if waits[k] != 0 {
-            return 64 * k + zeros(waits[k]);
+    for (k, w) in waits.iter().enumerate() {
+        if *w != 0 {
+            return 64 * k + zeros(*w);
         }
-        k += 1;
     }
     256
 }
 
-#[derive(Drop)]
-pub enum Popped {
-    Block(usize),
-    Empty,
-}
-
 // The waiting block of lowest rank among n, which waits no more. The block of each rank is lent.
-pub fn pop(waits: &mut [u64], blocks: &[u32], n: usize) -> Popped
+pub fn pop(waits: &mut [u64], blocks: &[u32], n: usize) -> Option<usize>
     requires four { Four waits.old }
     requires n_bound { n ≤ 256 }
     requires n_in_bounds { n ≤ length blocks.now }
     ensures popping { Popping blocks.now n waits.old waits.new result }
     ensures words { waits.new ≡ bit_rest n waits.old }
-    ensures block { result ≡ answered (bit_popped blocks.now n waits.old) }
+    ensures block { found result ≡ bit_popped blocks.now n waits.old }
 {
     let r = first_rank(waits);
     if n <= r {
-        return Popped::Empty;
+        return None;
     }
-    let w = r / 64;
-    waits[w] = waits[w] ^ mask(r);
-    Popped::Block(blocks[r] as usize)
+    waits[r / 64] ^= mask(r);
+    Some(blocks[r] as usize)
 }

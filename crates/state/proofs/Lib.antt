@@ -1,10 +1,8 @@
 -- What the proofs of several functions use, and of the crates above.
-pub mod Copies
 mod Moves
 pub mod Fields
 pub mod Locals
 pub mod Finding
 pub mod Standing
-mod Ends
 mod Skipping
 pub mod Fronted

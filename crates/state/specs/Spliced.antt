@@ -9,10 +9,6 @@ fronted a n = take n a ++ replicate (512 - n) 0
 unfoldable pub cleared : List ℕ → ℕ → ℕ → List ℕ
 cleared a from end = take from a ++ (replicate (end - from) 0 ++ drop end a)
 
--- the words from..end stand from `to` on, over what stood there
-unfoldable pub moved : List ℕ → ℕ → ℕ → ℕ → List ℕ
-moved a from end to = take to a ++ (take (end - from) (drop from a) ++ drop (to + (end - from)) a)
-
 -- of the first n words those before i, then `gap` zeros, then those from j on, then zeros
 unfoldable pub splice : List ℕ → ℕ → ℕ → ℕ → ℕ → List ℕ
 splice a i gap j n = take i a ++ (replicate gap 0 ++ (take (n - j) (drop j a) ++ replicate (512 - (i + gap + (n - j))) 0))
@@ -20,14 +16,6 @@ splice a i gap j n = take i a ++ (replicate gap 0 ++ (take (n - j) (drop j a) ++
 -- n words, then zeros
 abbrev pub Padded : List ℕ → ℕ → Type 0
 Padded a n = (length a ≡ 512) × (a ≡ fronted a n)
-
--- the words from..end have room from `to` on, which is no earlier
-abbrev pub Upward : List ℕ → ℕ → ℕ → ℕ → Type 0
-Upward a from end to = (from ≤ end) × (from ≤ to) × (to + (end - from) ≤ length a)
-
--- or no later
-abbrev pub Downward : List ℕ → ℕ → ℕ → ℕ → Type 0
-Downward a from end to = (from ≤ end) × (to ≤ from) × (end ≤ length a)
 
 -- of n words the one at i can give way to `gap` others
 abbrev pub Gap : ℕ → ℕ → ℕ → Type 0

@@ -1,5 +1,5 @@
 // Refusal 3: is a state record one of these local types?
-ghost use Rattle.std.specs.Prelude.{◌≡◌, true, ◌<◌, ◌≤◌, drop};
+ghost use Rattle.std.specs.Prelude.{◌≡◌, true, ◌<◌, ◌≤◌, length, drop};
 ghost use Rattle.model.specs.Types.{ntypes};
 ghost use Rattle.model.specs.State.{opens, zeros, decode, locals_ok};
 ghost use Rattle.base.specs.Ranges.{BothLong};
@@ -10,16 +10,9 @@ ghost use Rattle.state.specs.Kids.{KidsIn, kid_types};
 ghost use Rattle.state.specs.Checked.{Checked, CheckedAll, CheckedLocals, ComeTo};
 
 use crate::kids::{Kids, first_kid, kids_of, rest_of_kids};
-use crate::nodes::{State, wide16};
-use type_record::kinds::{form_of, shut};
-use type_record::record::{count_of, kind_of, wide};
-
-// Where a tree ends, if there is one.
-#[derive(Drop)]
-pub enum End {
-    At(usize),
-    Missing,
-}
+use crate::nodes::State;
+use type_record::kinds::Kind;
+use type_record::record::{count_of, kind_at};
 
 // May a node of type t be open with this form at this variant?
 fn opens(types: &[u32], t: usize, form: u16, what: u16) -> bool
@@ -27,21 +20,20 @@ fn opens(types: &[u32], t: usize, form: u16, what: u16) -> bool
     requires t_bound { t < ntypes types.now }
     ensures { result ≡ opens types.now t (form, what) }
 {
-    let k = kind_of(types, t);
-    if shut(k) {
+    let k = kind_at(types, t);
+    if k.shut() || k.form() != form {
         return false;
     }
-    if form_of(k) != form {
-        return false;
+    if k == Kind::Enum {
+        usize::from(what) < count_of(types, t)
+    } else {
+        what == 0
     }
-    if k == 7 {
-        return wide16(what) < count_of(types, t);
-    }
-    what == 0
 }
 
-// The tree of type t at i, of n nodes in all, open at d levels at the most.
+// Where the tree of type t at i ends, of n nodes in all, open at d levels at the most; None if there is none.
 #[cycle(check_fields_check_node)]
+#[tactic(auto, using(crate::proofs::Fields::ready_sized))]
 fn check_node<'a>(
     types: &[u32],
     offs: &[u32],
@@ -51,32 +43,28 @@ fn check_node<'a>(
     i: usize,
     t: usize,
     d: usize,
-) -> End
+) -> Option<usize>
     requires ready { Ready types.now offs.now }
     requires t_bound { t < ntypes types.now }
     requires both_long { BothLong n forms.now whats.now }
     ensures { Checked types.now forms.now whats.now n d i t result }
 {
     if n <= i {
-        return End::Missing;
+        return None;
     }
     let f = forms[i];
     let w = whats[i];
-    if f == 0 {
-        if w == 0 {
-            return End::At(i + 1);
-        }
+    if f == 0 && w == 0 {
+        return Some(i + 1);
     }
-    if !opens(types, t, f, w) {
-        return End::Missing;
-    }
-    if d == 0 {
-        return End::Missing;
+    if !opens(types, t, f, w) || d == 0 {
+        return None;
     }
     let ks = kids_of(types, offs, t, w);
     check_fields(types, offs, forms, whats, n, i + 1, ks, d - 1)
 }
 
+// The same of the trees of a node's children.
 #[cycle(check_fields_check_node)]
 fn check_fields<'a>(
     types: &[u32],
@@ -87,23 +75,21 @@ fn check_fields<'a>(
     i: usize,
     ks: Kids,
     d: usize,
-) -> End
+) -> Option<usize>
     requires ready { Ready types.now offs.now }
     requires kids_in { KidsIn types.now ks }
     requires come_to { ComeTo i n forms.now whats.now }
     ensures { CheckedAll types.now forms.now whats.now n d i (kid_types types.now ks) result }
 {
     if ks.count == 0 {
-        return End::At(i);
+        return Some(i);
     }
     let t = first_kid(types, offs, ks);
-    let r = check_node(types, offs, forms, whats, n, i, t, d);
-    let End::At(e) = r else {
-        return End::Missing;
-    };
+    let e = check_node(types, offs, forms, whats, n, i, t, d)?;
     check_fields(types, offs, forms, whats, n, e, rest_of_kids(ks), d)
 }
 
+// Do the trees of all locals stand there, and end with the n nodes?
 fn check_locals<'a>(
     types: &[u32],
     offs: &[u32],
@@ -117,33 +103,22 @@ fn check_locals<'a>(
     requires both_long { BothLong n forms.now whats.now }
     ensures { CheckedLocals types.now forms.now whats.now n locals.now result }
 {
-    let m = locals.len();
     let mut i = 0;
-    let mut l = 0;
-    while l < m {
-        let r = check_node(types, offs, forms, whats, n, i, wide(locals[l]), 64);
-        let End::At(e) = r else {
+    for t in locals {
+        let Some(e) = check_node(types, offs, forms, whats, n, i, *t as usize, 64) else {
             return false;
         };
         i = e;
-        l += 1;
     }
     i == n
 }
 
 // Every entry from n on is zero.
-fn zeros_from(a: [u16; 512], n: usize) -> bool
-    requires { n ≤ 512 }
-    ensures { result ≡ zeros (drop n a) }
+fn zeros_from(a: &[u16], n: usize) -> bool
+    requires { n ≤ length a.now }
+    ensures { result ≡ zeros (drop n a.now) }
 {
-    let mut i = n;
-    while i < 512 {
-        if a[i] != 0 {
-            return false;
-        }
-        i += 1;
-    }
-    true
+    a[n..].iter().all(|x| *x == 0)
 }
 
 pub fn check_state(types: &[u32], offs: &[u32], locals: &[u32], s: State) -> bool
@@ -152,15 +127,7 @@ pub fn check_state(types: &[u32], offs: &[u32], locals: &[u32], s: State) -> boo
     ensures { result ≡ is_some (decode types.now locals.now (value s)) }
 {
     let n = s.nodes;
-    if 512 < n {
-        return false;
-    }
-    let f = s.forms;
-    let w = s.whats;
-    if !zeros_from(f, n) {
-        return false;
-    }
-    if !zeros_from(w, n) {
+    if 512 < n || !zeros_from(&s.forms, n) || !zeros_from(&s.whats, n) {
         return false;
     }
     check_locals(types, offs, &s.forms, &s.whats, n, locals)

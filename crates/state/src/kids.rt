@@ -5,7 +5,6 @@ ghost use Rattle.model.specs.Typing.{Openable};
 ghost use Rattle.type_record.specs.Sizes.{Ready};
 ghost use Rattle.state.specs.Kids.{KidsIn, KidsOf, SomeKids, FirstKid, rest_kids};
 
-use crate::nodes::wide16;
 use type_record::record::{count_of, first_of, owner_of, part_at};
 
 // The children of an open node of type t at variant w: `count` parts of `owner` from part `first` on.
@@ -16,24 +15,24 @@ pub struct Kids {
     pub count: usize,
 }
 
+#[tactic(auto, using(crate::proofs::Fields::ready_sized, crate::proofs::Fields::ready_counted))]
 pub fn kids_of(types: &[u32], offs: &[u32], t: usize, w: u16) -> Kids
     requires ready { Ready types.now offs.now }
     requires t_bound { t < ntypes types.now }
     requires openable { Openable types.now t w }
     ensures { KidsOf types.now t w result }
 {
-    let v = wide16(w);
-    let owner = owner_of(types, offs, t, v);
+    let owner = owner_of(types, offs, t, usize::from(w));
     let first = first_of(types, t);
-    let count = count_of(types, owner) - first;
     Kids {
         owner,
         first,
-        count,
+        count: count_of(types, owner) - first,
     }
 }
 
 // The type of the first child.
+#[tactic(auto, using(crate::proofs::Fields::ready_counted))]
 pub fn first_kid(types: &[u32], offs: &[u32], ks: Kids) -> usize
     requires ready { Ready types.now offs.now }
     requires kids_in { KidsIn types.now ks }

@@ -6,7 +6,7 @@ ghost use Rattle.records.specs.Here.{Here, Heres};
 ghost use Rattle.type_record.specs.Sizes.{Ready};
 ghost use Rattle.state.specs.Found.{Fields, Ends, EndsAll, LocalAt};
 
-use type_record::record::{count_of, first_of, owner_of, part_at, wide};
+use type_record::record::{count_of, first_of, owner_of, part_at};
 
 // A state: form and variant of each node, in preorder, local after local. Every entry past the node count is zero.
 #[derive(Clone, Copy)]
@@ -24,6 +24,7 @@ pub fn wide16(x: u16) -> usize
 
 // The index just past the tree of type t that starts at i.
 #[cycle(fields_end_node_end)]
+#[tactic(auto, using(crate::proofs::Fields::ready_sized, crate::proofs::Fields::ready_counted))]
 pub fn node_end<'a>(
     types: &[u32],
     offs: &[u32],
@@ -40,8 +41,7 @@ pub fn node_end<'a>(
     if forms[i] == 0 {
         i + 1
     } else {
-        let v = wide16(whats[i]);
-        let u = owner_of(types, offs, t, v);
+        let u = owner_of(types, offs, t, usize::from(whats[i]));
         let j = first_of(types, t);
         let n = count_of(types, u) - j;
         fields_end(types, offs, forms, whats, i + 1, u, j, n)
@@ -50,6 +50,7 @@ pub fn node_end<'a>(
 
 // The index just past the n trees that start at i, at the parts of u from part j on.
 #[cycle(fields_end_node_end)]
+#[tactic(auto, using(crate::proofs::Fields::ready_counted))]
 pub fn fields_end<'a>(
     types: &[u32],
     offs: &[u32],
@@ -66,15 +67,13 @@ pub fn fields_end<'a>(
     ensures { EndsAll types.now forms.now whats.now i (parts types.now u j n) result }
 {
     let mut e = i;
-    let mut k = 0;
-    while k < n {
+    for k in 0..n {
         if forms[e] == 0 {
             e += 1;
         } else {
             let t = part_at(types, offs, u, j + k);
             e = node_end(types, offs, forms, whats, e, t);
         }
-        k += 1;
     }
     e
 }
@@ -95,10 +94,8 @@ pub fn local_at<'a>(
     ensures { LocalAt types.now forms.now whats.now locals.now l result }
 {
     let mut i = 0;
-    let mut k = 0;
-    while k < l {
-        i = node_end(types, offs, forms, whats, i, wide(locals[k]));
-        k += 1;
+    for t in &locals[..l] {
+        i = node_end(types, offs, forms, whats, i, *t as usize);
     }
     i
 }

@@ -1,6 +1,7 @@
 -- The finished record: the words that stand in the buffer at the end are the record, zeros behind it.
+use Rattle.std.proofs.Common.{Ok, Err}
 use mathlib.Core.Path.{◌≡◌, refl, sym, ap, ap₂, ◌∙◌}
-use mathlib.Core.Bool.{Bool, true, false, ◌&&◌, true≢false}
+use mathlib.Core.Bool.{Bool, true, false, ◌&&◌}
 use mathlib.Core.List.{List, [], ◌∷◌, ◌++◌, map, append_assoc}
 use Prim.Native.Nat.{ℕ, suc, ◌+◌, ◌*◌, ◌-◌, ◌%◌, ◌^◌, ◌≤◌, ◌<◌}
 use native.Mathlib.Decide.{dec_le}
@@ -12,8 +13,9 @@ use borrow.Author.Tests.{le-leb, lt-leb, lt-ltb, le-ltb}
 use Rattle.model.specs.Words.{word}
 use Rattle.model.specs.Record.{Entry, writable, lent}
 use Rattle.base.specs.Tests.{and_both}
+use Rattle.refusal.specs.declared.Refusal.TheVariants.{ShortStore}
 use Rattle.statements.specs.declared.Out.{Out}
-use Rattle.statements.specs.Kept.{room, Fits, Kept, Finished}
+use Rattle.statements.specs.Kept.{room, Fits, Kept, counts, Finished}
 use Rattle.statements.specs.Moved.{closed, cleared}
 
 -- the words from a on are one half of each entry
@@ -63,8 +65,13 @@ record_closed out k e es n h l ops args =
 
 -- the buffer is zeroed where no record can be written
 pub finished_zeroed : {k : ℕ} {es : List Entry} {out : List ℕ} {o : Out} {out' : List ℕ} → (Kept k es out o → writable (length out) es ≡ false)
-    → out' ≡ replicate (length out) 0 → Finished k es out o out' false
-finished_zeroed w e = record { answer = λ K l. sym (w K); written = λ K l d. absurd (true≢false (sym d)); zeroed = λ d. e }
+    → out' ≡ replicate (length out) 0 → Finished k es out o out' (Err ShortStore)
+finished_zeroed w e = record {
+  answer = λ K l. rw (w K) refl;
+  written = λ K l c d. absurd (cc);
+  counted = λ c d. absurd (cc);
+  zeroed = λ x d. (cc, e);
+}
 
 -- a buffer of less than two words
 pub not_counts : (n : ℕ) (es : List Entry) → n < 2 → writable n es ≡ false
@@ -103,17 +110,19 @@ fits_of {es = es} {out} l K = elim (dec_le (length es) (room (length out))) [
 -- the record is written
 pub finished_written : {k : ℕ} {es : List Entry} {out : List ℕ} {o : Out} {out' : List ℕ} → 2 ≤ length out → o.entries ≤ room (length out) → o.entries < 2 ^ 32
     → out' ≡ set (set (cleared (closed out (room (length out)) o.entries) (2 + o.entries + o.entries)) 0 (o.statements % 2 ^ 32)) 1 (o.entries % 2 ^ 32)
-    → Finished k es out o out' true
+    → Finished k es out o out' (Ok (counts o.statements o.entries))
 unfolding writable room
 finished_written {k} {es} {out} {o} h l s e = record {
   answer = λ K d.
       let F = fits_of l K in
-      sym (and_both (le-leb (2 + 2 * length es) (length out) (omega (arith, F.entries))) (lt-ltb (length es) (2 ^ 32) (omega (arith, F.entries))));
-  written = λ K d t.
+      rw (and_both (le-leb (2 + 2 * length es) (length out) (omega (arith, F.entries))) (lt-ltb (length es) (2 ^ 32) (omega (arith, F.entries))))
+      (ap₂ (λ (s n : ℕ). Ok (counts s n)) F.statements F.entries);
+  written = λ K d c t.
       let F = fits_of l K in
       let a : o.statements % 2 ^ 32 ≡ k = omega (arith, F.statements, F.entries) in
       let b : o.entries % 2 ^ 32 ≡ o.entries = omega arith in
       e ∙ ap₂ (λ (x y : ℕ). set (set (cleared (closed out (room (length out)) o.entries) (2 + o.entries + o.entries)) 0 x) 1 y) a b
       ∙ record_closed out k o.entries es F.entries (omega arith) l F.ops F.args;
-  zeroed = λ t. absurd (true≢false t);
+  counted = λ c t. cc;
+  zeroed = λ x t. absurd (cc);
 }

@@ -1,6 +1,5 @@
 -- What the proofs of statements share, and of the crates above.
 pub mod Puts
-pub mod Zeros
 pub mod Marks
 mod One
 mod Ending

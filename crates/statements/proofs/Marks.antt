@@ -6,7 +6,7 @@ use native.Mathlib.Numerals.{add-one}
 use native.Mathlib.Omega.{arith}
 use lib.Dec.{eqb, leb}
 use lib.ListN.{length, get_or, take, drop, set, replicate, length-append, length-map, get_or-append, get_or-map}
-use lib.Seq.{sets, paste, paste-zero, paste-suc, take_at, drop_at, take_all, length_paste_head, length-take-le, get_or-append-add, get_or-take, get_or-drop}
+use lib.Seq.{sets, paste, paste-suc, take_at, drop_at, drop-nil, set-get_or, take_all, length_paste_head, length-take-le, get_or-append-add, get_or-take, get_or-drop}
 use borrow.Author.Tests.{eqb-true, ne_eqb, le-leb, lt-leb}
 use Rattle.model.specs.Words.{word}
 use Rattle.model.specs.State.{pairs}
@@ -16,22 +16,15 @@ use Rattle.model.specs.Record.{Entry, elem_entry, verb_entry, point_entry, line_
 use Rattle.base.specs.Tests.{split}
 use Rattle.base.specs.Each.{Each, each_none, each_more}
 use Rattle.base.specs.Words.{sets_append}
-use Rattle.records.specs.Entries.{Whole, entries_of, record_of, length_record_of, length_entries_of, entries_next, entries_written}
+use Rattle.records.specs.Entries.{Whole, entries_of, record_of, length_record_of, length_entries_of, entries_next, entries_over, entries_written}
 use Rattle.statements.specs.Marked.{mark_of, number_of, marked_line, marked, marked_record, Held, told_in, unmarked, without_marks}
 
--- TOO FEW WORDS to say how many entries there are: none
-pub short_none : (ws : List ℕ) → length ws < 2 → word ws 1 ≡ 0
-short_none [] l = refl
-short_none (x ∷ []) l = refl
-short_none (x ∷ y ∷ ws) l = absurd (omega arith)
-
-pub short_entries : (ws : List ℕ) → length ws < 2 → entries_of ws ≡ []
+-- THE ENTRIES END where their count says, also of too few words to say it
+pub held_over : (ws : List ℕ) → Held ws → (k : ℕ) → word ws 1 ≤ k → drop k (entries_of ws) ≡ []
 unfolding entries_of pairs
-short_entries ws l = rw (short_none ws l) refl
-
-pub short_same : (ws : List ℕ) → length ws < 2 → ws ≡ without_marks ws
-unfolding without_marks
-short_same ws l = rw (short_none ws l) (paste-zero ws 2 (map unmarked (entries_of ws)))
+held_over [] h k l = drop-nil k
+held_over (x ∷ []) h k l = drop-nil k
+held_over (x ∷ y ∷ ws) h k l = entries_over (x ∷ y ∷ ws) (omega (arith, h)) k l
 
 -- AN ENTRY AT A TIME
 
@@ -48,13 +41,20 @@ pub tells_few : (op m : ℕ) → length (told_in ((op, m) ∷ [])) ≤ 1
 unfolding told_in
 tells_few op m = split (leb 15 op) (λ e. rw (e, told_in) (omega arith)) (λ e. rw (e, told_in) (omega arith))
 
-pub verb_unmarked : (op m : ℕ) → 15 ≤ op → unmarked (op, m) ≡ 0
+verb_unmarked : (op m : ℕ) → 15 ≤ op → unmarked (op, m) ≡ 0
 unfolding unmarked
 verb_unmarked op m l = rw (le-leb 15 op l, unmarked) refl
 
-pub other_unmarked : (op m : ℕ) → op < 15 → unmarked (op, m) ≡ m
+other_unmarked : (op m : ℕ) → op < 15 → unmarked (op, m) ≡ m
 unfolding unmarked
 other_unmarked op m l = rw (lt-leb 15 op l, unmarked) refl
+
+-- at i: a verb's mark is taken out, another's arg is kept
+pub set_taken : (ws : List ℕ) (i op m : ℕ) → 15 ≤ op → set ws i 0 ≡ set ws i (unmarked (op, m))
+set_taken ws i op m l = ap (set ws i) (sym (verb_unmarked op m l))
+
+pub set_kept : (ws : List ℕ) (i op : ℕ) → op < 15 → ws ≡ set ws i (unmarked (op, get_or ws i 0))
+set_kept ws i op l = sym (ap (set ws i) (other_unmarked op (get_or ws i 0) l) ∙ set-get_or ws i 0)
 
 -- the numbers of the first entry, and of the others
 told_first : (e : Entry) (es : List Entry) → told_in (e ∷ es) ≡ told_in (e ∷ []) ++ told_in es
@@ -118,7 +118,7 @@ module _ (ws : List ℕ) (h : Whole ws) (k : ℕ) (l : k < word ws 1) where
 -- OF LINES
 
 -- a number is read back
-pub number_suc : (n : ℕ) → number_of (suc n) ≡ n
+number_suc : (n : ℕ) → number_of (suc n) ≡ n
 unfolding number_of
 number_suc n = rw (ne_eqb (suc n) 0 (λ e. omega arith)) (omega arith)
 

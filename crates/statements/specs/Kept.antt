@@ -1,7 +1,10 @@
 -- A statement record that grows in a lent buffer, and how it is finished.
-use Rattle.std.specs.Prelude.{◌≡◌, Bool, true, false, List, ◌∷◌, ◌++◌, map, ℕ, suc, ◌+◌, ◌-◌, ◌/◌, ◌≤◌, ◌<◌, length, get_or, replicate}
+use Rattle.std.specs.Prelude.{◌≡◌, Bool, cond, Result, Ok, Err, List, ◌∷◌, ◌++◌, map, ℕ, suc, ◌+◌, ◌-◌, ◌/◌, ◌≤◌, ◌<◌, length, get_or, replicate}
 use Rattle.model.specs.Words.{word}
 use Rattle.model.specs.Record.{Entry, writable, lent}
+use Rattle.refusal.specs.declared.Refusal.{Refusal}
+use Rattle.refusal.specs.declared.Refusal.TheVariants.{ShortStore}
+use Rattle.statements.specs.declared.Counts.{Counts}
 use Rattle.statements.specs.declared.Out.{Out}
 use Rattle.statements.specs.declared.Point.{Point}
 
@@ -55,13 +58,18 @@ pub record Puts (n : ℕ) (out : List ℕ) (o : Out) (out' : List ℕ) (o' : Out
   pub counted : Counted out' o'
   pub kept : (k : ℕ) (es : List Entry) → Kept k es out o → Kept (k + n) (es ++ new) out' o'
 
--- the record of k statements is written whole, or the buffer is zeroed
-pub record Finished (k : ℕ) (es : List Entry) (out : List ℕ) (o : Out) (out' : List ℕ) (r : Bool) : Type 0 where
-  pub answer : Kept k es out o → k ≤ length es → r ≡ writable (length out) es
-  pub written : Kept k es out o → k ≤ length es → r ≡ true
+-- a record's counts
+abbrev pub counts : ℕ → ℕ → Counts
+counts s e = record { statements = s; entries = e }
+
+-- the record of k statements is written whole and its counts are told, or the buffer is zeroed
+pub record Finished (k : ℕ) (es : List Entry) (out : List ℕ) (o : Out) (out' : List ℕ) (r : Result Counts Refusal) : Type 0 where
+  pub answer : Kept k es out o → k ≤ length es → r ≡ cond (writable (length out) es) (Ok (counts k (length es))) (Err ShortStore)
+  pub written : Kept k es out o → k ≤ length es → (c : Counts) → r ≡ Ok c
       → out' ≡ lent (length out) (k ∷ length es ∷ (map (λ e. e.0) es ++ map (λ e. e.1) es))
-  pub zeroed : r ≡ false → out' ≡ replicate (length out) 0
+  pub counted : (c : Counts) → r ≡ Ok c → c ≡ counts o.statements o.entries
+  pub zeroed : (e : Refusal) → r ≡ Err e → (e ≡ ShortStore) × (out' ≡ replicate (length out) 0)
 
 -- whatever statements they are
-abbrev pub Finishes : List ℕ → Out → List ℕ → Bool → Type 0
+abbrev pub Finishes : List ℕ → Out → List ℕ → Result Counts Refusal → Type 0
 Finishes out o out' r = (k : ℕ) (es : List Entry) → Finished k es out o out' r

@@ -11,18 +11,22 @@ use lib.ListN.{length, drop, length-append}
 use lib.Seq.{get_or-drop, drop-drop}
 use borrow.Author.Tests.{ne_eqb, lt-leb, leb-true, leb-false}
 use Rattle.model.specs.Words.{word}
-use Rattle.model.specs.Place.{Elem, deref, field, downcast, index, Verb, Fold, Unfold, dash}
+use Rattle.std.specs.Prelude.{Option, None, Some}
+use Rattle.model.specs.Place as Place
+use Rattle.model.specs.Place.{Elem, deref, field, downcast, index, Fold, Unfold, dash}
 use Rattle.model.specs.Block.{elem_of}
 use Rattle.model.specs.Record.{Entry}
 use Rattle.model.specs.Ghosts.{number, elem_text, verb_text, told_text}
 use Rattle.base.specs.Tests.{split, cond_split}
 use Rattle.records.specs.Entries.{Whole, entries_of, entries_next, entries_over}
 use Rattle.records.specs.Digits.{length_number}
+use Rattle.text.specs.declared.print.Verb.{Verb}
+use Rattle.text.specs.declared.print.Verb.TheVariants as verb
 use Rattle.text.specs.Printing.{entry_text, point, ends, verb_now, told_bytes, first_text, verb_behind, ended, kept_for}
 use Rattle.text.proofs.Writing.{number_one, number_more}
 
 -- the text of entries, in a line whose verb so far is v; ns: the numbers of the lines from this one on
-unfoldable pub entries_text : ℕ → List ℕ → List Entry → List ℕ
+unfoldable pub entries_text : Option Verb → List ℕ → List Entry → List ℕ
 entries_text v ns [] = []
 entries_text v ns (e ∷ es) = first_text v (word ns 0) (e ∷ es) ++ entries_text (verb_behind v (e ∷ es)) (drop (ended (e ∷ es)) ns) es
 
@@ -41,13 +45,13 @@ module _ (ws : List ℕ) (h : Whole ws) where
 
   module _ (k n : ℕ) (l : k < word ws 1) (e : n ≡ word ws 1) {b : Bool} (q : b ≡ ends (drop (k + 1) (entries_of ws))) where
     -- the text of entry k; b: whether its line ends there
-    pub first_there : (v m : ℕ) → entry_text (word ws (2 + k), word ws (2 + n + k)) ++ cond b (told_bytes (verb_now v (word ws (2 + k))) m ++ (10 ∷ [])) []
+    pub first_there : (v : Option Verb) (m : ℕ) → entry_text (word ws (2 + k), word ws (2 + n + k)) ++ cond b (told_bytes (verb_now v (word ws (2 + k))) m ++ (10 ∷ [])) []
         ≡ first_text v m (drop k (entries_of ws))
     unfolding first_text
     first_there v m = rw (entries_next ws h k l, e, q, add-one) refl
 
     -- the verb behind it
-    pub verb_there : (v : ℕ) → cond b 0 (verb_now v (word ws (2 + k))) ≡ verb_behind v (drop k (entries_of ws))
+    pub verb_there : (v : Option Verb) → cond b None (verb_now v (word ws (2 + k))) ≡ verb_behind v (drop k (entries_of ws))
     unfolding verb_behind
     verb_there v = rw (entries_next ws h k l, q, add-one) refl
 
@@ -57,7 +61,7 @@ module _ (ws : List ℕ) (h : Whole ws) where
     ended_there = rw (entries_next ws h k l, q, add-one) refl
 
   -- the text from entry k on
-  pub text_next : (k : ℕ) → k < word ws 1 → (v : ℕ) (told : List ℕ) (j : ℕ) → let es = drop k (entries_of ws) in
+  pub text_next : (k : ℕ) → k < word ws 1 → (v : Option Verb) (told : List ℕ) (j : ℕ) → let es = drop k (entries_of ws) in
       first_text v (word told j) es ++ entries_text (verb_behind v es) (drop (j + ended es) told) (drop (k + 1) (entries_of ws)) ≡ entries_text v (drop j told) es
   unfolding entries_text
   text_next k l v told j =
@@ -67,7 +71,7 @@ module _ (ws : List ℕ) (h : Whole ws) where
       ∙ rw (entries_next ws h k l, add-one) refl
 
   -- which is empty behind the last
-  pub text_over : (k : ℕ) → word ws 1 ≤ k → (v : ℕ) (ns : List ℕ) → entries_text v ns (drop k (entries_of ws)) ≡ []
+  pub text_over : (k : ℕ) → word ws 1 ≤ k → (v : Option Verb) (ns : List ℕ) → entries_text v ns (drop k (entries_of ws)) ≡ []
   unfolding entries_text
   text_over k l v ns = ap (entries_text v ns) (entries_over ws h k l)
 
@@ -100,11 +104,10 @@ length_verb e l =
     (cond_split (λ (t : List ℕ). length t ≤ 9) (eqb e.0 15) (λ _. omega arith) (λ _. omega arith))
 
 -- so there is room for it, and for what is told behind its line
-pub length_kept : (v : ℕ) (e : Entry) → length (entry_text e) + kept_for (verb_now v e.0) ≤ kept_for v + 13
+pub length_kept : (v : Option Verb) (e : Entry) → length (entry_text e) + kept_for (verb_now v e.0) ≤ kept_for v + 13
 unfolding verb_now
 length_kept v e = split (leb 15 e.0)
-    (λ q. rw q (cond_split (λ (k : ℕ). length (entry_text e) + k ≤ kept_for v + 13) (eqb e.0 0)
-    (λ _. omega (arith, length_entry e)) (λ _. omega (arith, length_verb e (leb-true 15 e.0 q)))))
+    (λ q. rw q (omega (arith, length_verb e (leb-true 15 e.0 q))))
     (λ q. rw q (omega (arith, length_entry e)))
 
 -- a number of three digits at the most
@@ -118,43 +121,41 @@ length_few n l = split (leb 10 n)
     (λ a. rw (number_one n (leb-false 10 n a)) (omega arith))
 
 -- what is told
-length_told_text : (w : Verb) (n : ℕ) → n < 1000 → length (told_text w n) ≤ 4
+length_told_text : (w : Place.Verb) (n : ℕ) → n < 1000 → length (told_text w n) ≤ 4
 unfolding told_text
 length_told_text Fold n l = cond_split (λ (t : List ℕ). length t ≤ 4) (eqb n dash) (λ _. omega arith) (λ _. omega arith)
 length_told_text Unfold n l = cond_split (λ (t : List ℕ). length t ≤ 4) (eqb n dash) (λ _. omega arith) (λ _. omega (arith, length_few n l))
 
-pub length_told : (v n : ℕ) → n < 1000 → length (told_bytes v n) ≤ kept_for v
+pub length_told : (v : Option Verb) (n : ℕ) → n < 1000 → length (told_bytes v n) ≤ kept_for v
 unfolding told_bytes
-length_told v n l = split (eqb v 0)
-    (λ e. rw e (omega arith))
-    (λ e. rw e (cond_split (λ (t : List ℕ). length t ≤ 4) (eqb v 15) (λ _. length_told_text Fold n l) (λ _. length_told_text Unfold n l)))
+length_told None n l = omega arith
+length_told (Some verb.Fold) n l = length_told_text Fold n l
+length_told (Some verb.Unfold) n l = length_told_text Unfold n l
 
 -- its bytes, by the line's verb and the number
-pub bytes_none : (v n : ℕ) → v ≡ 0 → told_bytes v n ≡ []
+pub bytes_none : (n : ℕ) → told_bytes None n ≡ []
 unfolding told_bytes
-bytes_none v n e = rw e refl
+bytes_none n = refl
 
-pub bytes_dash : (v n : ℕ) → (v ≡ 0 → ⊥) → n ≡ 255 → told_bytes v n ≡ 32 ∷ 45 ∷ []
+pub bytes_dash : (v : Verb) (n : ℕ) → n ≡ 255 → told_bytes (Some v) n ≡ 32 ∷ 45 ∷ []
 unfolding told_bytes told_text
-bytes_dash v n z e = rw (ne_eqb v 0 z, e) (split (eqb v 15) (λ q. rw q refl) (λ q. rw q refl))
+bytes_dash verb.Fold n e = rw e refl
+bytes_dash verb.Unfold n e = rw e refl
 
-pub bytes_fold : (v n : ℕ) → v ≡ 15 → (n ≡ 255 → ⊥) → told_bytes v n ≡ []
+pub bytes_fold : (v : Verb) (n : ℕ) → v ≡ verb.Fold → (n ≡ 255 → ⊥) → told_bytes (Some v) n ≡ []
 unfolding told_bytes told_text
 bytes_fold v n e d = rw (e, ne_eqb n dash d) refl
 
-pub bytes_unfold : (v n : ℕ) → (v ≡ 0 → ⊥) → (n ≡ 255 → ⊥) → (v ≡ 15 → ⊥) → told_bytes v n ≡ 32 ∷ number n
+pub bytes_unfold : (v : Verb) (n : ℕ) → v ≡ verb.Unfold → (n ≡ 255 → ⊥) → told_bytes (Some v) n ≡ 32 ∷ number n
 unfolding told_bytes told_text
-bytes_unfold v n z d f = rw (ne_eqb v 0 z, ne_eqb v 15 f, ne_eqb n dash d) refl
-
-pub kept_some : (v : ℕ) → (v ≡ 0 → ⊥) → kept_for v ≡ 4
-kept_some v z = rw (ne_eqb v 0 z) refl
+bytes_unfold v n e d = rw (e, ne_eqb n dash d) refl
 
 -- an entry's with all that stands behind it
-pub length_first : (v n : ℕ) (es : List Entry) → n < 1000 → length (first_text v n es) + kept_for (verb_behind v es) ≤ kept_for v + 14
+pub length_first : (v : Option Verb) (n : ℕ) (es : List Entry) → n < 1000 → length (first_text v n es) + kept_for (verb_behind v es) ≤ kept_for v + 14
 unfolding first_text verb_behind
 length_first v n [] l = omega arith
 length_first v n (e ∷ es) l =
-    let w : ℕ = verb_now v e.0 in
+    let w : Option Verb = verb_now v e.0 in
     rw length-append (split (ends es)
     (λ q. rw (q, length-append) (omega (arith, length_kept v e, length_told w n l)))
     (λ q. rw q (omega (arith, length_kept v e))))

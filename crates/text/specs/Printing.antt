@@ -1,6 +1,6 @@
 -- What is printed: bytes written at a place of a text (`Writes`), and the text of the entries of a statement record, behind each statement what
 -- is told of it and a newline.
-use Rattle.std.specs.Prelude.{◌≡◌, Bool, true, cond, ◌||◌, List, [], ◌∷◌, ◌++◌, ℕ, ◌+◌, ◌≤◌, ◌<◌, length, take, eqb, leb}
+use Rattle.std.specs.Prelude.{◌≡◌, Bool, true, cond, ◌||◌, List, [], ◌∷◌, ◌++◌, ℕ, ◌+◌, ◌≤◌, ◌<◌, length, take, eqb, leb, Option, None, Some}
 use Rattle.model.specs.Words.{word}
 use Rattle.model.specs.Answer.{refused}
 use Rattle.model.specs.Place.{Fold, Unfold, At}
@@ -8,7 +8,11 @@ use Rattle.model.specs.Block.{elem_of}
 use Rattle.model.specs.Frame.{Line}
 use Rattle.model.specs.Record.{Entry, statement_record, lent, numbers}
 use Rattle.model.specs.Ghosts.{number, elem_text, verb_text, told_text, lines_text, answer_text}
+use Rattle.refusal.specs.declared.Refusal.{Refusal}
+use Rattle.refusal.specs.Refusal as Refusals
 use Rattle.text.specs.declared.print.Pen.{Pen}
+use Rattle.text.specs.declared.print.Verb.{Verb}
+use Rattle.text.specs.declared.print.Verb.TheVariants as verb
 
 -- from `at` on, where r is the end, bytes have been written into t; what stands in front is kept
 pub record Writes (t t' : List ℕ) (at r : ℕ) (bytes : List ℕ) : Type 0 where
@@ -34,23 +38,25 @@ unfoldable pub ends : List Entry → Bool
 ends [] = true
 ends (e ∷ es) = point e.0
 
--- the op of a line's verb, up to an entry and behind it; 0 before it
-unfoldable pub verb_now : ℕ → ℕ → ℕ
-verb_now v op = cond (leb 15 op) op v
+-- a line's verb, up to an entry and behind it, if there is one yet
+unfoldable pub verb_now : Option Verb → ℕ → Option Verb
+verb_now v op = cond (leb 15 op) (Some (cond (eqb op 15) verb.Fold verb.Unfold)) v
 
 -- what is told at the end of a line with this verb: the number n, a dash, nothing
-unfoldable pub told_bytes : ℕ → ℕ → List ℕ
-told_bytes v n = cond (eqb v 0) [] (cond (eqb v 15) (told_text Fold n) (told_text Unfold n))
+unfoldable pub told_bytes : Option Verb → ℕ → List ℕ
+told_bytes None n = []
+told_bytes (Some verb.Fold) n = told_text Fold n
+told_bytes (Some verb.Unfold) n = told_text Unfold n
 
 -- the first entry's text, in a line whose verb so far is v; if its line ends behind it, what is told and a newline
-unfoldable pub first_text : ℕ → ℕ → List Entry → List ℕ
+unfoldable pub first_text : Option Verb → ℕ → List Entry → List ℕ
 first_text v n [] = []
 first_text v n (e ∷ es) = entry_text e ++ cond (ends es) (told_bytes (verb_now v e.0) n ++ (10 ∷ [])) []
 
--- the line's verb behind the first entry; 0 where a line ends
-unfoldable pub verb_behind : ℕ → List Entry → ℕ
+-- the line's verb behind the first entry; none where a line ends
+unfoldable pub verb_behind : Option Verb → List Entry → Option Verb
 verb_behind v [] = v
-verb_behind v (e ∷ es) = cond (ends es) 0 (verb_now v e.0)
+verb_behind v (e ∷ es) = cond (ends es) None (verb_now v e.0)
 
 -- whether a line ends behind it
 unfoldable pub ended : List Entry → ℕ
@@ -68,8 +74,9 @@ pub record Moves (told : List ℕ) (t t' : List ℕ) (p q : Pen) (es : List Entr
   pub line : q.line ≡ p.line + ended es
 
 -- bytes that are kept for what is told at the end of a line
-abbrev pub kept_for : ℕ → ℕ
-kept_for v = cond (eqb v 0) 0 4
+abbrev pub kept_for : Option Verb → ℕ
+kept_for None = 0
+kept_for (Some v) = 4
 
 -- a record is printed, up to r: if it is the record of lines and these are their numbers, their text
 pub record Prints (out told t t' : List ℕ) (r : ℕ) : Type 0 where
@@ -78,7 +85,7 @@ pub record Prints (out told t t' : List ℕ) (r : ℕ) : Type 0 where
   pub lines : (entry : ℕ) (ls : List (Line At)) → out ≡ lent (length out) (statement_record entry ls) → told ≡ lent (length told) (numbers ls) → take r t' ≡ lines_text entry ls
 
 -- refusal r is printed, up to n
-pub record Refuses (t t' : List ℕ) (n r : ℕ) : Type 0 where
+pub record Refuses (t t' : List ℕ) (n : ℕ) (r : Refusal) : Type 0 where
   pub long : length t' ≡ length t
   pub inside : n ≤ length t
-  pub said : take n t' ≡ answer_text 0 (refused r)
+  pub said : take n t' ≡ answer_text 0 (refused (Refusals.number r))

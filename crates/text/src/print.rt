@@ -6,9 +6,9 @@ ghost use Rattle.records.specs.Entries.{Whole, entries_of};
 ghost use Rattle.text.specs.Printing.{Writes, entry_text, point, ends, verb_now, told_bytes, FewDigits, Moves, kept_for, Prints, Refuses};
 
 use mir::items::{DEREF, DOWNCAST, FIELD, INDEX, ROOT};
+use refusal::Refusal;
 use statements::numbers::DASH;
 use statements::{BEFORE, ENTRY, FOLD};
-use type_record::record::wide;
 
 const NEWLINE: u8 = 10;
 
@@ -24,25 +24,21 @@ fn put_all(text: &mut [u8], at: usize, s: &[u8]) -> usize
     requires { at + length s.now ≤ length text.old }
     ensures { Writes text.old text.new at result s.now }
 {
-    let n = s.len();
-    let mut i = 0;
-    while i < n {
-        text[at + i] = s[i];
-        i += 1;
-    }
-    at + n
+    let end = at + s.len();
+    text[at..end].copy_from_slice(s);
+    end
 }
 
-// A decimal number; 48 is the digit 0.
+// A decimal number.
 fn put_number(text: &mut [u8], at: usize, n: u32) -> usize
     requires { at + length (number n) ≤ length text.old }
     ensures { Writes text.old text.new at result (number n) }
 {
     if n < 10 {
-        return put(text, at, (48 + n) as u8);
+        return put(text, at, b'0' + n as u8);
     }
     let a = put_number(text, at, n / 10);
-    put(text, a, (48 + n % 10) as u8)
+    put(text, a, b'0' + (n % 10) as u8)
 }
 
 // Bytes, and a number behind them.
@@ -73,13 +69,11 @@ fn put_entry(text: &mut [u8], at: usize, op: u32, arg: u32) -> usize
 }
 
 // Is this a point's op?
+#[tactic(auto, unfolding(crate::specs::Printing::point))]
 fn is_point(op: u32) -> bool
     ensures { result ≡ point op }
 {
-    match op {
-        BEFORE | ENTRY => true,
-        _ => false,
-    }
+    matches!(op, BEFORE | ENTRY)
 }
 
 // Does a line end before entry k? A point is there, or the record's end.
@@ -88,50 +82,60 @@ fn ends(out: &[u32], k: usize) -> bool
     requires k_bound { k ≤ word out.now 1 }
     ensures { result ≡ ends (drop k (entries_of out.now)) }
 {
-    if k == wide(out[1]) {
-        return true;
-    }
-    is_point(out[2 + k])
+    k == out[1] as usize || is_point(out[2 + k])
 }
 
-// Where printing has come to: the next byte, how many lines have ended, the op of the line's verb, or 0 before it.
-#[derive(Drop)]
+#[derive(Clone, Copy)]
+pub enum Verb {
+    Fold,
+    Unfold,
+}
+
+// Where printing has come to: the next byte, how many lines have ended, and the line's verb, once it is printed.
+#[derive(Clone, Copy)]
 pub struct Pen {
     pub at: usize,
     pub line: usize,
-    pub verb: u32,
+    pub verb: Option<Verb>,
 }
 
 // The line's verb behind an entry with this op.
-fn verb_now(verb: u32, op: u32) -> u32
+#[tactic(auto, unfolding(crate::specs::Printing::verb_now))]
+fn verb_now(verb: Option<Verb>, op: u32) -> Option<Verb>
     ensures { result ≡ verb_now verb op }
 {
-    if FOLD <= op { op } else { verb }
+    if op < FOLD {
+        verb
+    } else if op == FOLD {
+        Some(Verb::Fold)
+    } else {
+        Some(Verb::Unfold)
+    }
 }
 
 // The number of a line, or 0 if there is none.
 fn number_of(told: &[u32], line: usize) -> u32
     ensures { result ≡ word told.now line }
 {
-    if line < told.len() { told[line] } else { 0 }
+    told.get(line).copied().unwrap_or(0)
 }
 
 // What is told at the end of a line with this verb.
-fn put_told(text: &mut [u8], at: usize, verb: u32, n: u32) -> usize
+fn put_told(text: &mut [u8], at: usize, verb: Option<Verb>, n: u32) -> usize
     requires verb_in_bounds { at + kept_for verb ≤ length text.old }
     requires n_bound { n < 1000 }
     ensures { Writes text.old text.new at result (told_bytes verb n) }
 {
-    if verb == 0 {
+    let Some(v) = verb else {
         return at;
-    }
+    };
     if n == DASH {
         return put_all(text, at, b" -");
     }
-    if verb == FOLD {
-        return at;
+    match v {
+        Verb::Fold => at,
+        Verb::Unfold => put_numbered(text, at, b" ", n),
     }
-    put_numbered(text, at, b" ", n)
 }
 
 // Entry k; if its line ends there, what is told and a newline.
@@ -143,21 +147,21 @@ fn print_entry(out: &[u32], told: &[u32], k: usize, text: &mut [u8], p: Pen) -> 
     requires line_le_k { p.line ≤ k }
     ensures { Moves told.now text.old text.new p result (drop k (entries_of out.now)) }
 {
-    let e = wide(out[1]);
+    let e = out[1] as usize;
     let a = put_entry(text, p.at, out[2 + k], out[2 + e + k]);
     let v = verb_now(p.verb, out[2 + k]);
     if !ends(out, k + 1) {
         return Pen {
             at: a,
-            line: p.line,
             verb: v,
+            ..p
         };
     }
     let b = put_told(text, a, v, number_of(told, p.line));
     Pen {
         at: put(text, b, NEWLINE),
         line: p.line + 1,
-        verb: 0,
+        verb: None,
     }
 }
 
@@ -168,25 +172,22 @@ pub fn print_record(out: &[u32], told: &[u32], text: &mut [u8]) -> usize
     requires few_digits { FewDigits told.now }
     ensures { Prints out.now told.now text.old text.new result }
 {
-    let e = wide(out[1]);
     let mut p = Pen {
         at: 0,
         line: 0,
-        verb: 0,
+        verb: None,
     };
-    let mut k = 0;
-    while k < e {
+    for k in 0..out[1] as usize {
         p = print_entry(out, told, k, text, p);
-        k += 1;
     }
     p.at
 }
 
 // A refusal as text.
-pub fn print_refusal(text: &mut [u8], r: u32) -> usize
+pub fn print_refusal(text: &mut [u8], r: Refusal) -> usize
     requires { 19 ≤ length text.old }
     ensures { Refuses text.old text.new result r }
 {
-    let a = put_numbered(text, 0, b"refused ", r);
+    let a = put_numbered(text, 0, b"refused ", u32::from(r));
     put(text, a, NEWLINE)
 }

@@ -6,6 +6,7 @@ ghost use Rattle.text.specs.Parted.{Parted};
 use mir::split::word;
 
 // How long a type record is by its sizes.
+#[tactic(auto, unfolding(model::specs::Types::types_length))]
 pub fn types_length(words: &[u32]) -> usize
     ensures { result ≡ types_length words.now }
 {
@@ -16,7 +17,5 @@ pub fn types_length(words: &[u32]) -> usize
 pub fn function_start(words: &[u32]) -> usize
     ensures { Parted words.now result }
 {
-    let n = words.len();
-    let t = types_length(words);
-    if t < n { t } else { n }
+    types_length(words).min(words.len())
 }

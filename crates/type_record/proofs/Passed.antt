@@ -1,6 +1,6 @@
 -- What the parts of refusal 1 that have passed say to those that come after. Assumes nothing.
-use mathlib.Core.Path.{◌≡◌, sym}
-use mathlib.Core.Bool.{Bool, true, false, ◌&&◌}
+use mathlib.Core.Path.{◌≡◌}
+use mathlib.Core.Bool.{Bool, true, ◌&&◌}
 use mathlib.Core.List.{List}
 use Prim.Native.Nat.{ℕ, ◌+◌, ◌<◌}
 use native.Mathlib.Omega.{arith}
@@ -9,7 +9,7 @@ use lib.ListN.{length}
 use borrow.Author.Tests.{ltb-true, leb-true, eqb-true}
 use Rattle.model.specs.Words.{all}
 use Rattle.model.specs.Types.{ntypes, nparts, kind, count, offset, part, pointer, fielded, type_sizes, counts_add, fields_ok, variant_ok, type_ok}
-use Rattle.base.specs.Tests.{split, and_left, and_right}
+use Rattle.base.specs.Tests.{and_left, and_right}
 use Rattle.base.specs.Below.{all_at}
 use Rattle.type_record.specs.Sizes.{Sized, Counted}
 
@@ -29,10 +29,6 @@ sizes_sized Γ e =
       most_parts = leb-true (nparts Γ) 16384 (and_right (a && b) c abc);
       whole = eqb-true (length Γ) _ (and_right (a && b && c) d e);
     }
-
--- the sizes fail
-pub sizes_fail : (Γ : List ℕ) → (Sized Γ → ⊥) → false ≡ type_sizes Γ
-sizes_fail Γ f = split (type_sizes Γ) (λ e. absurd (f (sizes_sized Γ e))) sym
 
 -- the counts add up too
 pub counts_counted : (Γ : List ℕ) → Sized Γ → counts_add Γ ≡ true → Counted Γ

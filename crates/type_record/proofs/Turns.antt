@@ -4,7 +4,7 @@ use mathlib.Core.Path.{◌≡◌, refl, sym, ◌∙◌}
 use mathlib.Core.Bool.{Bool, true, false, not}
 use Prim.Native.Nat.{ℕ, ◌+◌, ◌≤◌, ◌<◌}
 use native.Mathlib.Numerals.{add-one}
-use borrow.Author.Tests.{not-true, not-false}
+use borrow.Author.Tests.{not-true}
 use Rattle.model.specs.Words.{all}
 use Rattle.base.specs.Below.{all_suc, all_fails, all_fewer}
 
@@ -15,8 +15,8 @@ module _ (p : ℕ → Bool) where
   all_none = refl
 
   -- a turn whose test passes
-  pub all_more : (i : ℕ) {b : Bool} → all p i ≡ true → b ≡ p i → not b ≡ false → all p (i + 1) ≡ true
-  all_more i {b} e h f = rw add-one (all_suc p i e ∙ sym h ∙ not-false b f)
+  pub all_next : (i : ℕ) → all p i ≡ true → p i ≡ true → all p (i + 1) ≡ true
+  all_next i e h = rw add-one (all_suc p i e ∙ h)
 
   -- a turn whose test fails
   pub all_stop : (n i : ℕ) {b : Bool} → i < n → b ≡ p i → not b ≡ true → false ≡ all p n
@@ -25,3 +25,6 @@ module _ (p : ℕ → Bool) where
   -- behind the loop
   pub all_done : (n i : ℕ) → n ≤ i → all p i ≡ true → true ≡ all p n
   all_done n i l e = sym (all_fewer p n i l e)
+
+-- the turns that tactics take alone
+pub ruleset turns = (all_none, all_next)

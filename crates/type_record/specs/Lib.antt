@@ -1,3 +1,4 @@
 -- What the contracts cite beside the definitions of model.
 pub mod Sizes
 pub mod Fresh
+pub mod Kinds

@@ -6,31 +6,23 @@ ghost use Rattle.base.specs.Typed.{Variant};
 ghost use Rattle.type_record.specs.Sizes.{Sized, Counted, Offsets, Fills};
 ghost use Rattle.type_record.specs.Fresh.{value_fresh};
 
-use crate::record::{count_of, discriminant, kind_of, part_at, wide};
+use crate::kinds::Kind;
+use crate::record::{count_of, discriminant, kind_at, part_at};
 
 pub const MOST_TYPES: usize = 4096;
 
 pub const MOST_PARTS: usize = 16384;
 
+#[tactic(auto, unfolding(model::specs::Types::type_sizes))]
 fn type_sizes(types: &[u32]) -> bool
     ensures { result ≡ type_sizes types.now }
 {
-    let n = types.len();
-    if n < 2 {
+    if types.len() < 2 {
         return false;
     }
-    let t = wide(types[0]);
-    let p = wide(types[1]);
-    if t < 1 {
-        return false;
-    }
-    if MOST_TYPES < t {
-        return false;
-    }
-    if MOST_PARTS < p {
-        return false;
-    }
-    n == 2 + t + t + p
+    let t = types[0] as usize;
+    let p = types[1] as usize;
+    1 <= t && t <= MOST_TYPES && p <= MOST_PARTS && types.len() == 2 + t + t + p
 }
 
 // The offset of each type's parts; false if the counts do not add up to P.
@@ -41,22 +33,21 @@ fn fill_offsets(types: &[u32], offs: &mut [u32]) -> bool
     ensures filled { Fills types.now offs.new result }
     ensures rest { drop (ntypes types.now) offs.new ≡ drop (ntypes types.now) offs.old }
 {
-    let n = wide(types[0]);
+    let n = types[0] as usize;
     let p = types[1];
     let mut sum: u32 = 0;
-    let mut t = 0;
-    while t < n {
+    for t in 0..n {
         offs[t] = sum;
         let c = types[2 + n + t];
         if p - sum < c {
             return false;
         }
         sum += c;
-        t += 1;
     }
     sum == p
 }
 
+#[tactic(auto, unfolding(model::specs::Types::field_ok))]
 fn field_ok(types: &[u32], offs: &[u32], t: usize, j: usize) -> bool
     requires counted { Counted types.now }
     requires offsets { Offsets types.now offs.now }
@@ -65,30 +56,26 @@ fn field_ok(types: &[u32], offs: &[u32], t: usize, j: usize) -> bool
     ensures { result ≡ field_ok types.now t j }
 {
     let field = part_at(types, offs, t, j);
-    if t <= field {
-        return false;
-    }
-    kind_of(types, field) != 8
+    field < t && kind_at(types, field) != Kind::Variant
 }
 
 // The fields of t from part j on.
+#[tactic(auto, unfolding(model::specs::Types::fields_ok))]
 fn fields_ok(types: &[u32], offs: &[u32], t: usize, first: usize) -> bool
     requires counted { Counted types.now }
     requires offsets { Offsets types.now offs.now }
     requires t_bound { t < ntypes types.now }
     ensures { result ≡ fields_ok types.now t first }
 {
-    let n = count_of(types, t);
-    let mut j = first;
-    while j < n {
+    for j in first..count_of(types, t) {
         if !field_ok(types, offs, t, j) {
             return false;
         }
-        j += 1;
     }
     true
 }
 
+#[tactic(auto, unfolding(model::specs::Types::pointee_ok))]
 fn pointee_ok(types: &[u32], offs: &[u32], t: usize) -> bool
     requires counted { Counted types.now }
     requires offsets { Offsets types.now offs.now }
@@ -99,10 +86,7 @@ fn pointee_ok(types: &[u32], offs: &[u32], t: usize) -> bool
         return false;
     }
     let pointee = part_at(types, offs, t, 0);
-    if wide(types[0]) <= pointee {
-        return false;
-    }
-    kind_of(types, pointee) != 8
+    pointee < types[0] as usize && kind_at(types, pointee) != Kind::Variant
 }
 
 // No variant before j has the discriminant of variant j.
@@ -117,16 +101,15 @@ fn value_fresh(types: &[u32], offs: &[u32], t: usize, j: usize) -> bool
     ensures { result ≡ value_fresh types.now t j }
 {
     let d = discriminant(types, offs, t, j);
-    let mut i = 0;
-    while i < j {
+    for i in 0..j {
         if discriminant(types, offs, t, i) == d {
             return false;
         }
-        i += 1;
     }
     true
 }
 
+#[tactic(auto, unfolding(model::specs::Types::variant_ok))]
 fn variant_ok(types: &[u32], offs: &[u32], t: usize, j: usize) -> bool
     requires counted { Counted types.now }
     requires offsets { Offsets types.now offs.now }
@@ -140,12 +123,10 @@ fn variant_ok(types: &[u32], offs: &[u32], t: usize, j: usize) -> bool
     if t <= variant {
         return false;
     }
-    if kind_of(types, variant) != 8 {
-        return false;
-    }
-    value_fresh(types, offs, t, j)
+    kind_at(types, variant) == Kind::Variant && value_fresh(types, offs, t, j)
 }
 
+#[tactic(auto, using(crate::proofs::Turns::turns), unfolding(model::specs::Types::variants_ok))]
 fn variants_ok(types: &[u32], offs: &[u32], t: usize) -> bool
     requires counted { Counted types.now }
     requires offsets { Offsets types.now offs.now }
@@ -153,13 +134,10 @@ fn variants_ok(types: &[u32], offs: &[u32], t: usize) -> bool
     requires t_value { all (type_ok types.now) t ≡ true }
     ensures { result ≡ variants_ok types.now t }
 {
-    let n = count_of(types, t);
-    let mut j = 0;
-    while j < n {
+    for j in 0..count_of(types, t) {
         if !variant_ok(types, offs, t, j) {
             return false;
         }
-        j += 1;
     }
     true
 }
@@ -171,34 +149,28 @@ fn type_ok(types: &[u32], offs: &[u32], t: usize) -> bool
     requires t_value { all (type_ok types.now) t ≡ true }
     ensures { result ≡ type_ok types.now t }
 {
-    let k = kind_of(types, t);
-    match k {
-        0 | 4 => count_of(types, t) == 0,
-        1..=3 => pointee_ok(types, offs, t),
-        5 | 6 | 9 | 10 => fields_ok(types, offs, t, 0),
-        7 => variants_ok(types, offs, t),
-        8 => {
-            if count_of(types, t) < 1 {
-                return false;
-            }
-            fields_ok(types, offs, t, 1)
+    match kind_at(types, t) {
+        Kind::Opaque | Kind::Array => count_of(types, t) == 0,
+        Kind::Pointer | Kind::Reference | Kind::Box => pointee_ok(types, offs, t),
+        Kind::Tuple | Kind::Struct | Kind::Closure | Kind::Coroutine => {
+            fields_ok(types, offs, t, 0)
         }
-        _ => false,
+        Kind::Enum => variants_ok(types, offs, t),
+        Kind::Variant => 1 <= count_of(types, t) && fields_ok(types, offs, t, 1),
+        Kind::Other => false,
     }
 }
 
+#[tactic(auto, using(crate::proofs::Turns::turns), unfolding(model::specs::Types::all_types_ok))]
 fn all_types_ok(types: &[u32], offs: &[u32]) -> bool
     requires counted { Counted types.now }
     requires offsets { Offsets types.now offs.now }
     ensures { result ≡ all_types_ok types.now }
 {
-    let n = wide(types[0]);
-    let mut t = 0;
-    while t < n {
+    for t in 0..types[0] as usize {
         if !type_ok(types, offs, t) {
             return false;
         }
-        t += 1;
     }
     true
 }
@@ -213,8 +185,5 @@ pub fn check_types(types: &[u32], offs: &mut [u32]) -> bool
     if !type_sizes(types) {
         return false;
     }
-    if !fill_offsets(types, offs) {
-        return false;
-    }
-    all_types_ok(types, offs)
+    fill_offsets(types, offs) && all_types_ok(types, offs)
 }

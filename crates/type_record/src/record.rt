@@ -2,6 +2,9 @@
 ghost use Rattle.std.specs.Prelude.{◌≡◌, true, ◌<◌, length, get_or};
 ghost use Rattle.model.specs.Types.{ntypes, kind, count, part, owner, first, kids, casts, discriminant, types_ok};
 ghost use Rattle.type_record.specs.Sizes.{Sized, Counted, Offsets, VariantOf};
+ghost use Rattle.type_record.specs.Kinds.{kind_named};
+
+use crate::kinds::Kind;
 
 pub fn wide(x: u32) -> usize
     ensures { result ≡ x }
@@ -17,15 +20,26 @@ pub fn kind_of(types: &[u32], t: usize) -> u32
     types[2 + t]
 }
 
+// The kind of a type of a record that has been tested.
+pub fn kind_at(types: &[u32], t: usize) -> Kind
+    requires sized { Sized types.now }
+    requires t_bound { t < ntypes types.now }
+    ensures { result ≡ kind_named (kind types.now t) }
+{
+    Kind::from(kind_of(types, t))
+}
+
+#[tactic(auto, unfolding(model::specs::Types::count))]
 pub fn count_of(types: &[u32], t: usize) -> usize
     requires sized { Sized types.now }
     requires t_bound { t < ntypes types.now }
     ensures { result ≡ count types.now t }
 {
-    let n = wide(types[0]);
-    wide(types[2 + n + t])
+    let n = types[0] as usize;
+    types[2 + n + t] as usize
 }
 
+#[tactic(auto, unfolding(model::specs::Types::part))]
 pub fn part_at(types: &[u32], offs: &[u32], t: usize, j: usize) -> usize
     requires counted { Counted types.now }
     requires offsets { Offsets types.now offs.now }
@@ -33,9 +47,9 @@ pub fn part_at(types: &[u32], offs: &[u32], t: usize, j: usize) -> usize
     requires j_bound { j < count types.now t }
     ensures { result ≡ part types.now t j }
 {
-    let n = wide(types[0]);
-    let o = wide(offs[t]);
-    wide(types[2 + n + n + o + j])
+    let n = types[0] as usize;
+    let o = offs[t] as usize;
+    types[2 + n + n + o + j] as usize
 }
 
 // The type whose parts the children of an open node are: an enum's are its variant's.
@@ -46,7 +60,7 @@ pub fn owner_of(types: &[u32], offs: &[u32], t: usize, v: usize) -> usize
     requires variant_of { VariantOf types.now t v }
     ensures { result ≡ owner types.now t v }
 {
-    if kind_of(types, t) == 7 {
+    if kind_at(types, t) == Kind::Enum {
         part_at(types, offs, t, v)
     } else {
         t
@@ -59,7 +73,11 @@ pub fn first_of(types: &[u32], t: usize) -> usize
     requires t_bound { t < ntypes types.now }
     ensures { result ≡ first types.now t }
 {
-    if kind_of(types, t) == 7 { 1 } else { 0 }
+    if kind_at(types, t) == Kind::Enum {
+        1
+    } else {
+        0
+    }
 }
 
 // How many children an open node has.
@@ -90,22 +108,21 @@ pub fn kid_type(types: &[u32], offs: &[u32], t: usize, v: usize, i: usize) -> us
 }
 
 // Has the type t a variant v to downcast to? A struct has variant 0.
+#[tactic(auto, unfolding(model::specs::Types::casts))]
 pub fn casts(types: &[u32], t: usize, v: usize) -> bool
     requires sized { Sized types.now }
     requires t_bound { t < ntypes types.now }
     ensures { result ≡ casts types.now t v }
 {
-    let k = kind_of(types, t);
-    if k == 7 {
-        return v < count_of(types, t);
+    match kind_at(types, t) {
+        Kind::Enum => v < count_of(types, t),
+        Kind::Struct => v == 0,
+        _ => false,
     }
-    if k == 6 {
-        return v == 0;
-    }
-    false
 }
 
 // The discriminant of variant v of the enum t.
+#[tactic(auto, unfolding(model::specs::Types::discriminant))]
 pub fn discriminant(types: &[u32], offs: &[u32], t: usize, v: usize) -> usize
     requires counted { Counted types.now }
     requires offsets { Offsets types.now offs.now }

@@ -1,49 +1,48 @@
 // The checks of records: refusals 1, 2 and 4, and join points.
-ghost use Rattle.mir.specs.Sizes.{Formed};
+ghost use Rattle.std.specs.Prelude.{◌≡◌, true, OnOk};
+ghost use Rattle.model.specs.Types.{types_ok};
 
-use crate::lists::{end_of, list};
+use crate::answers::print_answer;
+use crate::lists::split_list;
 use blocks::join_points::fill_join_points;
 use blocks::place::places_ok;
 use mir::check_function::check_function;
-use stream::{print_number, print_words};
+use refusal::Refusal;
+use stream::print_words;
 use type_record::check_types::check_types;
+
+fn types_checked(types: &[u32]) -> Result<(), Refusal>
+    ensures { OnOk result (types_ok types.now ≡ true) }
+{
+    let mut offs = [0u32; 4096];
+    if !check_types(types, &mut offs) {
+        return Err(Refusal::BadTypes);
+    }
+    Ok(())
+}
 
 // A type record.
 pub fn types(rt: &impl Print, words: &[u32]) {
-    let mut offs = [0u32; 4096];
-    let r = check_types(words, &mut offs);
-    print_number(rt, if r { 0 } else { 1 });
+    print_answer(rt, types_checked(words), |()| ());
 }
 
-// Of a function that passes refusals 1 and 2: the places, and then the numbers of the join points' shares.
-fn passed(rt: &impl Print, fun: &[u32])
-    requires { Formed fun.now }
-{
-    let mut points = [0u32; 256];
-    if !places_ok(fun) {
-        print_number(rt, 4);
-        return;
+// The numbers of the join points' shares.
+fn joins(types: &[u32], fun: &[u32]) -> Result<[u32; 256], Refusal> {
+    types_checked(types)?;
+    if !check_function(types, fun) {
+        return Err(Refusal::BadFunction);
     }
+    if !places_ok(fun) {
+        return Err(Refusal::BadPlace);
+    }
+    let mut points = [0u32; 256];
     fill_join_points(fun, &mut points);
-    print_number(rt, 0);
-    print_words(rt, &points);
+    Ok(points)
 }
 
 // Both records.
-fn both(rt: &impl Print, types: &[u32], fun: &[u32]) {
-    let mut offs = [0u32; 4096];
-    if !check_types(types, &mut offs) {
-        print_number(rt, 1);
-        return;
-    }
-    if !check_function(types, fun) {
-        print_number(rt, 2);
-        return;
-    }
-    passed(rt, fun);
-}
-
 pub fn function(rt: &impl Print, words: &[u32]) {
-    let a = end_of(words, 0);
-    both(rt, list(words, 0), list(words, a));
+    let (types, rest) = split_list(words);
+    let (fun, _) = split_list(rest);
+    print_answer(rt, joins(types, fun), |points| print_words(rt, &points));
 }

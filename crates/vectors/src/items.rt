@@ -1,25 +1,14 @@
 // A list of statements: 12 statement_items.
-use crate::lists::{list, number};
-use crate::whole::{buffer, least};
-use assign::{Items, statement_items};
+use crate::answers::print_answer;
+use crate::lists::{lent, split_list, words_from};
+use assign::statement_items;
 use stream::{print_number, print_words};
-use type_record::record::wide;
-
-fn answered(rt: &impl Print, words: &[u32], out: &mut [u32]) {
-    let r = statement_items(words, out);
-    match r {
-        Items::Refused(n) => print_number(rt, wide(n)),
-        Items::Done(n) => {
-            print_number(rt, 0);
-            print_number(rt, n);
-        }
-    }
-    print_words(rt, out);
-}
 
 // The length of the buffer, then the list.
 pub fn call(rt: &impl Print, words: &[u32]) {
-    let mut out = buffer();
-    let o = least(number(words, 0, 0), 4096);
-    answered(rt, list(words, 1), &mut out[..o]);
+    let mut buffer = [7u32; 4096];
+    let out = &mut buffer[..lent(words, 0, 4096)];
+    let (list, _) = split_list(words_from(words, 1));
+    print_answer(rt, statement_items(list, out), |n| print_number(rt, n));
+    print_words(rt, out);
 }

@@ -1,30 +1,27 @@
 // The lists of a case: each is its length and its words.
-ghost use Rattle.std.specs.Prelude.{◌≤◌, length};
+ghost use Rattle.std.specs.Prelude.{◌≤◌};
 
-use stream::list_end;
+// The first list, as far as it is there, and the words behind it.
+pub fn split_list(words: &[u32]) -> (&[u32], &[u32]) {
+    match words.split_first() {
+        Some((n, rest)) => rest.split_at(rest.len().min(*n as usize)),
+        None => (words, words),
+    }
+}
 
-// The end of the list at `at`; the end of the words, if there is none.
-pub fn end_of(words: &[u32], at: usize) -> usize
-    ensures { result ≤ length words.now }
+// The words from `at` on.
+pub fn words_from(words: &[u32], at: usize) -> &[u32] {
+    &words[at.min(words.len())..]
+}
+
+// Word k, or 0.
+pub fn number(words: &[u32], k: usize) -> u32 {
+    words.get(k).copied().unwrap_or(0)
+}
+
+// How many words or halves are lent: word k, and `most` at the most.
+pub fn lent(words: &[u32], k: usize, most: usize) -> usize
+    ensures { result ≤ most }
 {
-    let n = words.len();
-    if at < n { list_end(words, at) } else { n }
-}
-
-// The words of the list at `at`.
-pub fn list(words: &[u32], at: usize) -> &[u32] {
-    let e = end_of(words, at);
-    if at < e {
-        return &words[at + 1..e];
-    }
-    &words[e..e]
-}
-
-// Word k from `at` on, or 0.
-pub fn number(words: &[u32], at: usize, k: usize) -> u32 {
-    let n = words.len();
-    if n < at {
-        return 0;
-    }
-    if k < n - at { words[at + k] } else { 0 }
+    most.min(number(words, k) as usize)
 }

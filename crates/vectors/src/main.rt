@@ -2,9 +2,10 @@
 // behind bars what it leaves in states and lent arrays, without the zeros at their end.
 #![tactic(auto)]
 
-ghost use Rattle.std.specs.Prelude.{◌≤◌, length};
+ghost use Rattle.std.specs.Prelude.{◌≤◌, length, IfSome};
 ghost use Rattle.stream.specs.Filled.{Filled};
 
+mod answers;
 mod checks;
 mod items;
 mod lists;
@@ -18,21 +19,17 @@ use stream::{Reader, end_word, idle, print_text, room, step};
 
 // The case of a line: which call, then its input.
 fn answer(rt: &impl Print, words: &[u32]) {
-    if words.len() == 0 {
+    let Some((which, rest)) = words.split_first() else {
         return;
-    }
-    let n = words.len();
-    let call = words[0];
-    let rest = &words[1..n];
-    match call {
+    };
+    match *which {
         1 => checks::types(rt, rest),
         2 => checks::function(rt, rest),
-        3 => whole::call(rt, call, rest),
-        4..=7 => places::call(rt, call, rest),
+        3 | 13 => whole::call(rt, *which, rest),
+        4..=7 => places::call(rt, *which, rest),
         12 => items::call(rt, rest),
-        13 => whole::call(rt, call, rest),
         14 => merges::call(rt, rest),
-        _ => states::call(rt, call, rest),
+        _ => states::call(rt, *which, rest),
     }
     print_text(rt, b"\n");
 }
@@ -42,12 +39,11 @@ fn next(rt: &impl Print, r: Reader, c: u8, words: &mut [u32]) -> Reader
     requires { r.total ≤ length words.old }
     ensures { Filled words.old result.total words.new }
 {
-    if c != 10 {
+    if c != b'\n' {
         return step(r, c, words);
     }
     let s = end_word(r, words);
-    let n = s.total;
-    answer(rt, &words[..n]);
+    answer(rt, &words[..s.total]);
     idle(0)
 }
 
@@ -55,53 +51,34 @@ fn feed(rt: &impl Print, r: Reader, text: &[u8], words: &mut [u32]) -> Reader
     requires { r.total ≤ length words.old }
     ensures { Filled words.old result.total words.new }
 {
-    let n = text.len();
     let mut s = r;
-    let mut i = 0;
-    while i < n {
-        s = next(rt, s, text[i], words);
-        i += 1;
+    for c in text {
+        s = next(rt, s, *c, words);
     }
     s
 }
 
-// One read: going is false at the end of the input, and where a read failed.
-#[derive(Drop)]
-struct More {
-    reader: Reader,
-    going: bool,
-}
-
-fn read_some(rt: &impl Print, input: &mut impl Read, r: Reader, words: &mut [u32]) -> More
+// One read: None at the end of the input, and where a read failed.
+fn read_some(rt: &impl Print, input: &mut impl Read, r: Reader, words: &mut [u32]) -> Option<Reader>
     requires { r.total ≤ length words.old }
-    ensures { Filled words.old result.reader.total words.new }
+    ensures { IfSome result (λ s. Filled words.old s.total words.new) }
 {
     let mut buf = [0u8; 4096];
     let n = input.read(&mut buf).unwrap_or(0);
     if n == 0 {
-        return More {
-            reader: r,
-            going: false,
-        };
+        return None;
     }
-    let s = feed(rt, r, &buf[..n], words);
-    More {
-        reader: s,
-        going: true,
-    }
+    Some(feed(rt, r, &buf[..n], words))
 }
 
-// The turns are counted down from a number that no run uses up, since nothing says that an input ends.
+// The turns are counted, up to a number that no run reaches, since nothing says that an input ends.
 fn main(rt: HostRuntime) {
     let mut words = room();
-    let mut m = More {
-        reader: idle(0),
-        going: true,
-    };
-    let mut turns = u64::MAX;
-    while 0 < turns && m.going {
-        turns -= 1;
-        let r = m.reader;
-        m = read_some(&rt, &mut rt.stdin(), r, &mut words);
+    let mut r = idle(0);
+    for _ in 0..u64::MAX {
+        let Some(s) = read_some(&rt, &mut rt.stdin(), r, &mut words) else {
+            return;
+        };
+        r = s;
     }
 }

@@ -1,29 +1,32 @@
 -- A block that is entered, in the arrays and in the buffer: refused by its items, over at its return, left by its targets.
-use mathlib.Core.Path.{◌≡◌, refl, sym, ◌∙◌, subst, subst₂}
+use mathlib.Core.Path.{◌≡◌, refl, ◌∙◌, subst, subst₂}
 use mathlib.Core.Bool.{Bool, true, false}
 use mathlib.Core.List.{List, ◌++◌, append-nil}
-use mathlib.Core.Logic.{◌≢◌}
 use Prim.Native.Nat.{ℕ, suc, ◌-◌, ◌<◌}
+use Rattle.std.specs.Prelude.{Result, Ok, Err}
 use lib.ListN.{length}
 use Rattle.model.specs.Answer.{Answer, refused, done}
 use Rattle.model.specs.Tree.{Forest}
 use Rattle.model.specs.Place.{At}
 use Rattle.model.specs.Collect.{folds_at_ret}
-use Rattle.model.specs.Function.{nargs, nblocks, start, stop}
+use Rattle.model.specs.Function.{nargs, nblocks, local_types, start, stop}
 use Rattle.model.specs.Block.{returns}
 use Rattle.model.specs.Frame.{Line, mark}
 use Rattle.base.specs.Tests.{clash}
 use Rattle.base.specs.Answer.{split_answer}
 use Rattle.base.specs.Function.{FunctionFacts}
+use Rattle.records.specs.Here.{Holds}
+use Rattle.refusal.specs.Refusal.{number}
+use Rattle.refusal.specs.declared.Refusal.{Refusal}
+use Rattle.state.specs.Value.{value}
+use Rattle.state.specs.declared.nodes.State.{State}
 use Rattle.statements.specs.declared.Out.{Out}
-use Rattle.body.specs.Uses.{uses, Gone, Passes, After}
+use Rattle.body.specs.Uses.{uses, Passes}
 use Rattle.statements.specs.Points.{Tells}
 use Rattle.body.proofs.Passing.{tells_same}
 use Rattle.arrival.specs.Memory.{Memory, enters, departs}
 use Rattle.arrival.specs.Shares.{Arrays, Remembers, Alike}
 use Rattle.arrival.specs.Visits.{Spoken, Visits}
-use Rattle.arrival.specs.declared.jump.Visit.{Visit}
-use Rattle.arrival.specs.declared.jump.Visit.TheVariants.{Over, Refused}
 use Rattle.arrival.proofs.Heard.{told_more, telling, spoken_told}
 use Rattle.visit.proofs.Steps.{enters_uses, departs_none, ret_some, ret_none}
 
@@ -54,14 +57,17 @@ told_remembers recording ls R = record {
 }
 
 -- the items were passed
-pub passes_gone : {Γ fn out out' : List ℕ} {o : Out} {a : Answer (Forest × List (Line At))} {r : After} → Passes Γ fn out o out' a r → r.refusal ≡ 0
-    → (w : Forest × List (Line At)) × (a ≡ done w) × Gone Γ fn out o out' w r
-passes_gone {a} P z = split_answer a (λ n e. absurd ((P.denied n e).1 (sym (P.denied n e).0 ∙ z))) (λ w e. (w, e, P.gone w e))
+pub passes_gone : {Γ fn out out' : List ℕ} {o q : Out} {a : Answer (Forest × List (Line At))} {s : State} → Passes Γ fn out o out' a (Ok q) s
+    → (w : Forest × List (Line At)) × (a ≡ done w) × Holds Γ (local_types fn) (value s) w.0 × Tells fn out o out' q w.1
+passes_gone {fn = fn} {out} {out'} {o} {q} {a} P = split_answer a
+    (λ n e. let d = P.denied n e in clash (cc))
+    (λ w e. let G = P.gone w e in let z : G.told ≡ q = cc G.fine in
+    (w, e, G.state, subst (λ (t : Out). Tells fn out o out' t w.1) z G.lines))
 
 -- the items are those of the block b
-pub passes_block : {Γ fn out out' : List ℕ} {o : Out} {r : After} (E : Forest) (b : ℕ) {i k : ℕ} → i ≡ start fn b → k ≡ stop fn b
-    → Passes Γ fn out o out' (uses Γ fn false (k - i) i E) r → Passes Γ fn out o out' (uses Γ fn false (stop fn b - start fn b) (start fn b) E) r
-passes_block {Γ} {fn} {out} {out'} {o} {r} E b e d P = subst₂ (λ (i k : ℕ). Passes Γ fn out o out' (uses Γ fn false (k - i) i E) r) e d P
+pub passes_block : {Γ fn out out' : List ℕ} {o : Out} {r : Result Out Refusal} {s : State} (E : Forest) (b : ℕ) {i k : ℕ} → i ≡ start fn b → k ≡ stop fn b
+    → Passes Γ fn out o out' (uses Γ fn false (k - i) i E) r s → Passes Γ fn out o out' (uses Γ fn false (stop fn b - start fn b) (start fn b) E) r s
+passes_block {Γ} {fn} {out} {out'} {o} {r} {s} E b e d P = subst₂ (λ (i k : ℕ). Passes Γ fn out o out' (uses Γ fn false (k - i) i E) r s) e d P
 
 -- a block whose items pass, and which doesn't return, is left
 pub enters_departs : (Γ fn : List ℕ) (recording : Bool) (n b : ℕ) → b < nblocks fn → (E : Forest) (m : Memory) {w : Forest × List (Line At)}
@@ -70,19 +76,19 @@ pub enters_departs : (Γ fn : List ℕ) (recording : Bool) (n b : ℕ) → b < n
 enters_departs Γ fn recording n b l E m {w} u e = enters_uses Γ fn recording n b E m l ∙ rw (u, ret_none Γ fn b w.0 e, append-nil) refl
 
 -- a visit in the pass that the record says
-pub visits_pen : {Γ fn : List ℕ} {b recording : Bool} {x x' : Arrays} {out out' : List ℕ} {v : Visit} (f : Bool → Answer Memory) → b ≡ recording
+pub visits_pen : {Γ fn : List ℕ} {b recording : Bool} {x x' : Arrays} {out out' : List ℕ} {v : Result Out Refusal} (f : Bool → Answer Memory) → b ≡ recording
     → Visits Γ fn b x out (f b) x' out' v → Visits Γ fn recording x out (f recording) x' out' v
 visits_pen {Γ} {fn} {x = x} {x'} {out} {out'} {v} f e N = subst (λ (c : Bool). Visits Γ fn c x out (f c) x' out' v) e N
 
 module _ {Γ fn : List ℕ} {recording : Bool} where
   -- a visit that model refuses
-  pub visits_refused : {x x' : Arrays} {out out' : List ℕ} {a : Answer Memory} {k : ℕ} → a ≡ refused k → Alike x x' → length out' ≡ length out
-      → Visits Γ fn recording x out a x' out' (Refused k)
+  pub visits_refused : {x x' : Arrays} {out out' : List ℕ} {a : Answer Memory} {k : Refusal} → a ≡ refused (number k) → Alike x x'
+      → length out' ≡ length out → Visits Γ fn recording x out a x' out' (Err k)
   visits_refused e A s = record { alike = A; same = s; denied = λ n d. cc; over = λ m d. clash (cc) }
 
   -- and one that is over
   pub visits_over : {x x' : Arrays} {out out' : List ℕ} {a : Answer Memory} {m : Memory} {o : Out} → a ≡ done m → Alike x x' → length out' ≡ length out
-      → Remembers Γ fn m x' → Spoken fn recording m.lines out' o → Visits Γ fn recording x out a x' out' (Over o)
+      → Remembers Γ fn m x' → Spoken fn recording m.lines out' o → Visits Γ fn recording x out a x' out' (Ok o)
   visits_over {m} {o} e A s R S = record {
     alike = A;
     same = s;
@@ -91,24 +97,24 @@ module _ {Γ fn : List ℕ} {recording : Bool} where
   }
 
   -- one that begins with what was told
-  pub visits_later : {x y x' : Arrays} {out out₁ out' : List ℕ} {a : Answer Memory} {v : Visit} → Alike x y → length out₁ ≡ length out
+  pub visits_later : {x y x' : Arrays} {out out₁ out' : List ℕ} {a : Answer Memory} {v : Result Out Refusal} → Alike x y → length out₁ ≡ length out
       → Visits Γ fn recording y out₁ a x' out' v → Visits Γ fn recording x out a x' out' v
   visits_later A s N = record { alike = alike_then A N.alike; same = N.same ∙ s; denied = N.denied; over = N.over }
 
   module _ (n : ℕ) {b : ℕ} (l : b < nblocks fn) (E : Forest) (m : Memory) {x : Arrays} {out out' : List ℕ} where
     -- the items are refused
-    pub enter_refused : {o : Out} {r : After} → Passes Γ fn out o out' (uses Γ fn false (stop fn b - start fn b) (start fn b) E) r → r.refusal ≢ 0
-        → Visits Γ fn recording x out (enters Γ fn recording (suc n) b E m) x out' (Refused r.refusal)
-    enter_refused P d = split_answer (uses Γ fn false (stop fn b - start fn b) (start fn b) E)
-        (λ k e. visits_refused (enters_uses Γ fn recording n b E m l ∙ rw (e, ← (P.denied k e).0) refl) (alike_same x) P.same)
-        (λ w e. absurd (d (P.gone w e).fine))
+    pub enter_refused : {o : Out} {k : Refusal} {s : State} → Passes Γ fn out o out' (uses Γ fn false (stop fn b - start fn b) (start fn b) E) (Err k) s
+        → Visits Γ fn recording x out (enters Γ fn recording (suc n) b E m) x out' (Err k)
+    enter_refused {k = k} P = split_answer (uses Γ fn false (stop fn b - start fn b) (start fn b) E)
+        (λ n e. let z : n ≡ number k = cc (P.denied n e) in visits_refused (enters_uses Γ fn recording _ b E m l ∙ rw (e, z) refl) (alike_same x) P.same)
+        (λ w e. let d = (P.gone w e).fine in clash (cc))
 
     module _ (A : FunctionFacts fn) {w : Forest × List (Line At)} (u : uses Γ fn false (stop fn b - start fn b) (start fn b) E ≡ done w) {o q : Out}
         (T : Tells fn out o out' q w.1) where
       -- the block returns
       pub enter_over : {out'' : List ℕ} {q' : Out} {j : ℕ} → j ≡ stop fn b - 1 → returns fn b ≡ true → Remembers Γ fn m x → Spoken fn recording m.lines out o
           → Tells fn out' q out'' q' (mark j (folds_at_ret Γ (nargs fn) w.0))
-          → Visits Γ fn recording x out (enters Γ fn recording (suc n) b E m) x out'' (Over q')
+          → Visits Γ fn recording x out (enters Γ fn recording (suc n) b E m) x out'' (Ok q')
       enter_over {out''} {q'} {j} d e R S U₁ =
           let U : Tells fn out' q out'' q' (mark (stop fn b - 1) (folds_at_ret Γ (nargs fn) w.0)) = rw d at U₁ in
           let ls = w.1 ++ mark (stop fn b - 1) (folds_at_ret Γ (nargs fn) w.0) in
@@ -117,7 +123,7 @@ module _ {Γ fn : List ℕ} {recording : Bool} where
           (alike_same x) (tells_same U ∙ tells_same T) (told_remembers recording ls R) (rw (← told_more recording m.lines w.1 _) (spoken_told (spoken_told S T) U))
 
       -- and any other
-      pub enter_leave : {x'' : Arrays} {out'' : List ℕ} {v : Visit} → returns fn b ≡ false
+      pub enter_leave : {x'' : Arrays} {out'' : List ℕ} {v : Result Out Refusal} → returns fn b ≡ false
           → Visits Γ fn recording x out' (departs Γ fn recording n b w.0 (telling recording w.1 m)) x'' out'' v
           → Visits Γ fn recording x out (enters Γ fn recording (suc n) b E m) x'' out'' v
       enter_leave {x''} {out''} {v} e N = rw (enters_uses Γ fn recording n b E m l, u, ret_none Γ fn b w.0 e, append-nil) (visits_later (alike_same x) (tells_same T) N)

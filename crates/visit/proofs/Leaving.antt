@@ -4,6 +4,7 @@ use mathlib.Core.Bool.{Bool, false}
 use mathlib.Core.List.{List, [], ◌∷◌, map}
 use mathlib.Core.Logic.{◌≢◌}
 use Prim.Native.Nat.{ℕ, suc, ◌+◌, ◌-◌, ◌≤◌, ◌<◌}
+use Rattle.std.specs.Prelude.{Option, Result, Ok, Err}
 use native.Mathlib.Omega.{arith}
 use lib.ListN.{length}
 use lib.Dec.{eqb}
@@ -22,18 +23,17 @@ use Rattle.base.specs.Each.{Each, each_more}
 use Rattle.base.specs.Collected.{collect_zero, collect_pass, collect_fail}
 use Rattle.graph.specs.Points.{exits_listed}
 use Rattle.records.specs.Here.{Holds}
+use Rattle.refusal.specs.Refusal.{number}
+use Rattle.refusal.specs.declared.Refusal.{Refusal}
 use Rattle.state.specs.Value.{value}
 use Rattle.state.specs.declared.nodes.State.{State}
 use Rattle.statements.specs.declared.Out.{Out}
 use Rattle.statements.specs.Points.{point}
 use Rattle.body.specs.Arms.{leaves_by, Chosen, Planned}
-use Rattle.body.specs.declared.arms.Plan.{Plan}
-use Rattle.body.specs.declared.arms.Plan.TheVariants.{Refused}
+use Rattle.body.specs.declared.arms.Match.{Match}
 use Rattle.arrival.specs.Memory.{Memory, hears, arrives, enters, jumps, departs}
 use Rattle.arrival.specs.Shares.{Arrays, Remembers, Alike}
 use Rattle.arrival.specs.Visits.{Spoken, exit, Visits}
-use Rattle.arrival.specs.declared.jump.Visit.{Visit}
-use Rattle.arrival.specs.declared.jump.Visit.TheVariants.{Over, Refused as Stopped}
 use Rattle.visit.proofs.Entering.{alike_same, alike_then, visits_pen, visits_refused, visits_over}
 
 -- is the item i a target?
@@ -62,7 +62,7 @@ module _ (Γ fn : List ℕ) (recording : Bool) (n b : ℕ) where
   abbrev pub leaving : List (Exit Forest) → Memory → Answer Memory
   leaving xs t = do_leave (frame Γ fn) (hears Γ fn recording) (arrives Γ fn recording) (λ c D t. enters Γ fn recording n c D t) xs t
 
-  module _ (p : Plan) (E : Forest) (m : Memory) where
+  module _ (p : Option Match) (E : Forest) (m : Memory) where
     -- exits for the target items from i on, by the plan
     pub record Exits (i : ℕ) (M : Memory) (xs : List (Exit Forest)) : Type 0 where
       pub listed : map target xs ≡ aims fn (stop fn b - i) i
@@ -89,27 +89,26 @@ module _ (Γ fn : List ℕ) (recording : Bool) (n b : ℕ) where
       pub leaves : departs Γ fn recording n b E m ≡ jumps Γ fn recording n (exit fn false i (arg fn i) state) M >>= λ t. leaving rest t
 
 -- a jump of the pass that the record says, to the block that the item names
-jumped : {Γ fn : List ℕ} {b recording : Bool} {x x' : Arrays} {out out' : List ℕ} {c d : ℕ} {u v : Visit} (n i : ℕ) (D : Forest) (M : Memory)
-    → b ≡ recording → c ≡ d → u ≡ v → Visits Γ fn b x out (jumps Γ fn b n (exit fn false i c D) M) x' out' u
+jumped : {Γ fn : List ℕ} {b recording : Bool} {x x' : Arrays} {out out' : List ℕ} {c d : ℕ} {v : Result Out Refusal} (n i : ℕ) (D : Forest) (M : Memory)
+    → b ≡ recording → c ≡ d → Visits Γ fn b x out (jumps Γ fn b n (exit fn false i c D) M) x' out' v
     → Visits Γ fn recording x out (jumps Γ fn recording n (exit fn false i d D) M) x' out' v
-jumped {Γ} {fn} {b} {recording} {x} {x'} {out} {out'} {c} {d} {u} {v} n i D M e z w N =
-    subst (λ (t : Visit). Visits Γ fn recording x out (jumps Γ fn recording n (exit fn false i d D) M) x' out' t) w
-    (subst (λ (k : ℕ). Visits Γ fn recording x out (jumps Γ fn recording n (exit fn false i k D) M) x' out' u) z
-    (visits_pen (λ r. jumps Γ fn r n (exit fn false i c D) M) e N))
+jumped {Γ} {fn} {b} {recording} {x} {x'} {out} {out'} {c} {d} {v} n i D M e z N =
+    subst (λ (k : ℕ). Visits Γ fn recording x out (jumps Γ fn recording n (exit fn false i k D) M) x' out' v) z
+    (visits_pen (λ r. jumps Γ fn r n (exit fn false i c D) M) e N)
 
-module _ {Γ fn : List ℕ} {recording : Bool} {n b : ℕ} {p : Plan} {E : Forest} {m : Memory} where
+module _ {Γ fn : List ℕ} {recording : Bool} {n b : ℕ} {p : Option Match} {E : Forest} {m : Memory} where
   -- at the block's first item
-  pub left_start : {x : Arrays} {out : List ℕ} {o : Out} → b < nblocks fn → Planned Γ fn b E p → ((k : ℕ) → p ≡ Refused k → ⊥) → Remembers Γ fn m x
+  pub left_start : {x : Arrays} {out : List ℕ} {o : Out} → b < nblocks fn → Planned Γ fn b E (Ok p) → Remembers Γ fn m x
       → Spoken fn recording m.lines out o → Left Γ fn recording n b p E m x out (start fn b) x out o
   unfolding targets
-  left_start {x} l P d R S = split_answer (exits_of Γ fn (matched fn b) (targets fn b) E)
-      (λ k e. absurd (d k (P.denied k e)))
+  left_start {x} l P R S = split_answer (exits_of Γ fn (matched fn b) (targets fn b) E)
+      (λ k e. let d = P.denied k e in clash (cc))
       (λ xs e. record {
         memory = m;
         exits = xs;
         ahead = record {
           listed = exits_listed Γ fn (matched fn b) (targets fn b) E e ∙ rw (lt-ltb b (nblocks fn) l, targets) refl;
-          chosen = P.chosen xs e;
+          chosen = P.chosen p xs refl e;
           leaves = rw e refl;
         };
         alike = alike_same x;
@@ -172,13 +171,13 @@ module _ {Γ fn : List ℕ} {recording : Bool} {n b : ℕ} {p : Plan} {E : Fores
         (L.ahead.listed ∙ rw (z, collect_pass (is_target fn) (aim fn) (stop fn b - (i + 1)) i (eq-eqb (op fn i) 10 d), ← y) refl)
 
     -- it came through
-    pub left_over : {x'' : Arrays} {out'' : List ℕ} {w : Out} {c : ℕ} {v : Visit} (N : Aimed Γ fn recording n b p E m i L.memory) → c ≡ arg fn i → v ≡ Over w
-        → Visits Γ fn q.recording x' out' (jumps Γ fn q.recording n (exit fn false i c N.state) L.memory) x'' out'' v
+    pub left_over : {x'' : Arrays} {out'' : List ℕ} {w : Out} {c : ℕ} (N : Aimed Γ fn recording n b p E m i L.memory) → c ≡ arg fn i
+        → Visits Γ fn q.recording x' out' (jumps Γ fn q.recording n (exit fn false i c N.state) L.memory) x'' out'' (Ok w)
         → Left Γ fn recording n b p E m x out (i + 1) x'' out'' w
-    left_over {w = w} N z y J₀ =
-        let J = jumped n i N.state L.memory L.spoken.pen z y J₀ in
+    left_over {w = w} N z J₀ =
+        let J = jumped n i N.state L.memory L.spoken.pen z J₀ in
         split_answer (jumps Γ fn recording n (exit fn false i (arg fn i) N.state) L.memory)
-        (λ k e. clash (cc (J.denied k e)))
+        (λ k e. let d = J.denied k e in clash (cc))
         (λ M e.
         let (o, r, R, S) = J.over M e in
         let z : o ≡ w = cc in
@@ -193,19 +192,19 @@ module _ {Γ fn : List ℕ} {recording : Bool} {n b : ℕ} {p : Plan} {E : Fores
         })
 
     -- or is refused
-    pub left_refused : {x'' : Arrays} {out'' : List ℕ} {k c : ℕ} {v : Visit} (N : Aimed Γ fn recording n b p E m i L.memory) → c ≡ arg fn i → v ≡ Stopped k
-        → Visits Γ fn q.recording x' out' (jumps Γ fn q.recording n (exit fn false i c N.state) L.memory) x'' out'' v
-        → Visits Γ fn recording x out (departs Γ fn recording n b E m) x'' out'' (Stopped k)
-    left_refused {k = k} N z y J₀ =
-        let J = jumped n i N.state L.memory L.spoken.pen z y J₀ in
+    pub left_refused : {x'' : Arrays} {out'' : List ℕ} {k : Refusal} {c : ℕ} (N : Aimed Γ fn recording n b p E m i L.memory) → c ≡ arg fn i
+        → Visits Γ fn q.recording x' out' (jumps Γ fn q.recording n (exit fn false i c N.state) L.memory) x'' out'' (Err k)
+        → Visits Γ fn recording x out (departs Γ fn recording n b E m) x'' out'' (Err k)
+    left_refused {k = k} N z J₀ =
+        let J = jumped n i N.state L.memory L.spoken.pen z J₀ in
         split_answer (jumps Γ fn recording n (exit fn false i (arg fn i) N.state) L.memory)
         (λ j e.
-        let z : k ≡ j = cc (J.denied j e) in
+        let z : j ≡ number k = cc (J.denied j e) in
         visits_refused (N.leaves ∙ rw (e, z) refl) (alike_then L.alike J.alike) (J.same ∙ L.same))
-        (λ M e. clash (cc (J.over M e).1))
+        (λ M e. let r = (J.over M e).1 in clash (cc))
 
     -- behind the last item
-    pub left_end : stop fn b ≤ i → Visits Γ fn recording x out (departs Γ fn recording n b E m) x' out' (Over q)
+    pub left_end : stop fn b ≤ i → Visits Γ fn recording x out (departs Γ fn recording n b E m) x' out' (Ok q)
     unfolding do_leave
     left_end l =
         let z : stop fn b - i ≡ 0 = omega arith in
@@ -213,9 +212,7 @@ module _ {Γ fn : List ℕ} {recording : Bool} {n b : ℕ} {p : Plan} {E : Fores
         visits_over (L.ahead.leaves ∙ rw e refl) L.alike L.same L.is L.spoken
 
 -- what a loop over a block's items keeps: the way left, from whatever memory the arrays and the buffer had
-pub record Onward (Γ fn : List ℕ) (recording : Bool) (n b : ℕ) (s : State) (p : Plan) (x : Arrays) (out : List ℕ) (o : Out) (x' : Arrays) (out' : List ℕ) (q : Out) (i : ℕ) : Type 0 where
-  pub low : start fn b ≤ i
-  pub high : i ≤ stop fn b
+pub record Onward (Γ fn : List ℕ) (recording : Bool) (n b : ℕ) (s : State) (p : Option Match) (x : Arrays) (out : List ℕ) (o : Out) (x' : Arrays) (out' : List ℕ) (q : Out) (i : ℕ) : Type 0 where
   pub alike : Alike x x'
   pub same : length out' ≡ length out
   pub left : (m : Memory) (E : Forest) → Remembers Γ fn m x → Spoken fn recording m.lines out o → Holds Γ (local_types fn) (value s) E

@@ -3,6 +3,7 @@ use mathlib.Core.Path.{◌≡◌, refl}
 use mathlib.Core.Bool.{Bool, true, false}
 use mathlib.Core.List.{List, [], ◌++◌}
 use mathlib.Core.Option.{none}
+use Rattle.std.specs.Prelude.{Option, Some, None, Ok}
 use mathlib.Core.Logic.{◌≢◌}
 use Prim.Native.Nat.{ℕ, suc, ◌-◌, ◌<◌}
 use native.Mathlib.Omega.{arith}
@@ -26,8 +27,7 @@ use Rattle.graph.proofs.Enders.{ender_on}
 use Rattle.graph.proofs.Targets.{returns_none}
 use Rattle.body.specs.Uses.{uses}
 use Rattle.body.specs.Arms.{Planned, Behind}
-use Rattle.body.specs.declared.arms.Plan.{Plan}
-use Rattle.body.specs.declared.arms.Plan.TheVariants.{Plain, Match, Refused}
+use Rattle.body.specs.declared.arms.Match.{Match}
 use Rattle.body.proofs.Stations.{stations_uses}
 use Rattle.arrival.specs.Memory.{Memory, arrives, enters, jumps, departs}
 use Rattle.arrival.proofs.Heard.{telling, hears_told}
@@ -84,19 +84,20 @@ module _ {fn : List ℕ} (A : FunctionFacts fn) {b : ℕ} (l : b < nblocks fn) w
       ])
 
   -- and none whose first item is a target: so a target of a match stands behind an item
-  pub target_behind : {i : ℕ} → Holds fn b i → op fn i ≡ 10 → {Γ : List ℕ} {E : Forest} {p : Plan} → Planned Γ fn b E p → Behind p i
-  target_behind {i} h d {p} P = elim (dec_lt 0 i) [
+  pub target_behind : {i : ℕ} → Holds fn b i → op fn i ≡ 10 → {Γ : List ℕ} {E : Forest} {p : Option Match} → Planned Γ fn b E (Ok p) → Behind p i
+  target_behind {i} h d {p = p} P = elim (dec_lt 0 i) [
     | yes u ↦ behind p u
-    | no u ↦ rw (P.plain (unmatched (λ s k e. elim (dec_lt i s) [
-      | yes v ↦ omega (arith, (ender_on A h (omega arith) k v).0)
-      | no v ↦ let q : s ≡ i = omega arith in omega (arith, rw q at e)
-    ]))) tt
+    | no u ↦
+        let q : p ≡ None = cc (P.plain (unmatched (λ s k e. elim (dec_lt i s) [
+          | yes v ↦ omega (arith, (ender_on A h (omega arith) k v).0)
+          | no v ↦ let q : s ≡ i = omega arith in omega (arith, rw q at e)
+        ]))) in
+        rw q tt
   ]
     where
-      behind : (p : Plan) → 0 < i → Behind p i
-      behind Plain u = tt
-      behind (Match m w) u = u
-      behind (Refused k) u = tt
+      behind : (p : Option Match) → 0 < i → Behind p i
+      behind None u = tt
+      behind (Some m) u = u
 
 -- A BLOCK THAT IS LEFT
 

@@ -1,5 +1,5 @@
 -- What a jump, a block that is entered and one that is left leave in the arrays and in the buffer, as `Visiting` (arrival) says it.
-use Rattle.std.specs.Prelude.{Bool, true, List, ℕ, suc}
+use Rattle.std.specs.Prelude.{Bool, true, List, ℕ, suc, Result}
 use Rattle.moments.specs.Lent.{Lent}
 use Rattle.model.specs.Answer.{Answer}
 use Rattle.model.specs.Tree.{Forest}
@@ -7,6 +7,7 @@ use Rattle.model.specs.Collect.{folds_at_ret}
 use Rattle.model.specs.Function.{nargs, nblocks, local_types}
 use Rattle.model.specs.Frame.{mark}
 use Rattle.records.specs.Here.{Holds}
+use Rattle.refusal.specs.declared.Refusal.{Refusal}
 use Rattle.state.specs.Value.{value}
 use Rattle.state.specs.declared.nodes.State.{State}
 use Rattle.statements.specs.Points.{Tells}
@@ -15,7 +16,6 @@ use Rattle.arrival.specs.Memory.{Memory, enters, jumps, departs}
 use Rattle.arrival.specs.Shares.{Change}
 use Rattle.arrival.specs.Visits.{exit, Visiting}
 use Rattle.arrival.specs.declared.jump.Jump.{Jump}
-use Rattle.arrival.specs.declared.jump.Visit.{Visit}
 use Rattle.visit.specs.declared.block.Way.{Way}
 
 -- WHAT IS ASKED OF MODEL
@@ -48,13 +48,13 @@ Returns Γ fn i s out o out' r = (E : Forest) → Holds Γ (local_types fn) (val
 
 module _ (Γ fn : List ℕ) (x : Change) (out : Lent) where
   -- the jump j is taken
-  abbrev pub Jumps : Jump → State → Out → Visit → Type 0
+  abbrev pub Jumps : Jump → State → Out → Result Out Refusal → Type 0
   Jumps j s o r = Visiting Γ fn x out s o (jumping Γ fn j) r
 
   -- a block is entered
-  abbrev pub Enters : Way → State → Out → Visit → Type 0
+  abbrev pub Enters : Way → State → Out → Result Out Refusal → Type 0
   Enters w s o r = Visiting Γ fn x out s o (entering Γ fn w) r
 
   -- it is left by its targets, in the state s that its items leave
-  abbrev pub Departs : Way → State → Out → Visit → Type 0
+  abbrev pub Departs : Way → State → Out → Result Out Refusal → Type 0
   Departs w s o r = Visiting Γ fn x out s o (departing Γ fn w) r

@@ -1,7 +1,6 @@
 // `basic_block` and `goto`. A target that is no join point is entered at once.
 ghost use Rattle.std.specs.Prelude.{true, ◌<◌};
 ghost use Rattle.model.specs.Function.{nitems, nblocks, local_types};
-ghost use Rattle.state.specs.Value.{state_in};
 ghost use Rattle.statements.specs.Kept.{Counted};
 ghost use Rattle.state.specs.Given.{Accepted, Stated};
 ghost use Rattle.arrival.specs.Shares.{arrays_in, change, Shared};
@@ -9,15 +8,16 @@ ghost use Rattle.visit.specs.Ways.{Come, Leaps, Beginning};
 ghost use Rattle.arrival.specs.Visits.{Ongoing};
 ghost use Rattle.visit.specs.Visits.{jumping, entering, departing, Returns, Jumps, Enters, Departs, start_jump};
 
-use arrival::jump::{Jump, Visit};
+use arrival::jump::Jump;
 use arrival::meet::meet;
-use body::arms::{Plan, plan_of, target_state};
+use body::arms::{plan_of, target_state};
 use body::items::{Items, pass_items};
 use collect::states::collect_folds_at_ret;
 use mir::function::{arg_of, local_types, nargs, nblocks, op_of, start_of, stop_of};
+use mir::items::{RETURN, TARGET};
+use refusal::Refusal;
 use state::nodes::State;
 use statements::{Out, at_point, point_of};
-use type_record::record::wide;
 
 // A block that is entered, and how many blocks the way to it has not entered.
 #[derive(Drop)]
@@ -26,23 +26,21 @@ pub struct Way {
     pub left: usize,
 }
 
-// What the return at the item i records, in the state of n nodes that these arrays have.
-fn returned<'a>(
+// What the return at the item i records, in the state s.
+fn returned(
     types: &[u32],
     offs: &[u32],
     fun: &[u32],
     i: usize,
-    forms: &'a [u16],
-    whats: &'a [u16],
-    n: usize,
+    s: &State,
     out: &mut [u32],
     o: Out,
 ) -> Out
     requires accepted { Accepted types.now offs.now fun.now }
     requires i_bound { i < nitems fun.now }
-    requires stated { Stated types.now (local_types fun.now) (state_in forms.now whats.now n) }
+    requires stated { Stated types.now (local_types fun.now) s.now }
     requires counted { Counted out.old o }
-    ensures { Returns types.now fun.now i (state_in forms.now whats.now n) out.old o out.new result }
+    ensures { Returns types.now fun.now i s.now out.old o out.new result }
 {
     if o.recording {
         return collect_folds_at_ret(
@@ -50,8 +48,7 @@ fn returned<'a>(
             offs,
             local_types(fun),
             nargs(fun),
-            forms,
-            whats,
+            s,
             out,
             at_point(o, point_of(i, false)),
         );
@@ -74,7 +71,7 @@ fn goto(
     j: Jump,
     s: State,
     o: Out,
-) -> Visit
+) -> Result<Out, Refusal>
     requires accepted { Accepted types.now offs.now fun.now }
     requires shared { Shared fun.now points.now }
     requires ongoing { Ongoing types.now fun.now (arrays_in memo.old waits.old forms.old whats.old) out.old o s (jumping types.now fun.now j) }
@@ -109,9 +106,9 @@ pub fn basic_block(
     whats: &mut [u16],
     out: &mut [u32],
     w: Way,
-    s: State,
+    mut s: State,
     o: Out,
-) -> Visit
+) -> Result<Out, Refusal>
     requires accepted { Accepted types.now offs.now fun.now }
     requires shared { Shared fun.now points.now }
     requires ongoing { Ongoing types.now fun.now (arrays_in memo.old waits.old forms.old whats.old) out.old o s (entering types.now fun.now w) }
@@ -125,26 +122,18 @@ pub fn basic_block(
         end,
         entry: false,
     };
-    let mut fs = s.forms;
-    let mut ws = s.whats;
-    let r = pass_items(types, offs, fun, items, &mut fs, &mut ws, s.nodes, out, o);
-    if r.refusal != 0 {
-        return Visit::Refused(r.refusal);
-    }
-    let n = r.nodes;
-    let q = r.out;
-    if op_of(fun, end - 1) == 11 {
-        return Visit::Over(returned(types, offs, fun, end - 1, &fs, &ws, n, out, q));
+    let q = pass_items(types, offs, fun, items, &mut s, out, o)?;
+    if op_of(fun, end - 1) == RETURN {
+        return Ok(returned(types, offs, fun, end - 1, &s, out, q));
     }
     terminator(
-        types, offs, fun, points, memo, waits, forms, whats, out, w, &fs, &ws, n, q,
+        types, offs, fun, points, memo, waits, forms, whats, out, w, &s, q,
     )
 }
 
-// The ender of the block: it is left by its targets, in the state that its items leave in fs and ws, of n nodes. All arms of a match
-// are tried first.
+// The ender of the block: it is left by its targets, in the state s that its items leave. All arms of a match are tried first.
 #[cycle(basic_block_goto_terminator)]
-fn terminator<'a>(
+fn terminator(
     types: &[u32],
     offs: &[u32],
     fun: &[u32],
@@ -155,52 +144,37 @@ fn terminator<'a>(
     whats: &mut [u16],
     out: &mut [u32],
     w: Way,
-    fs: &'a [u16],
-    ws: &'a [u16],
-    n: usize,
+    s: &State,
     o: Out,
-) -> Visit
+) -> Result<Out, Refusal>
     requires accepted { Accepted types.now offs.now fun.now }
     requires shared { Shared fun.now points.now }
-    requires ongoing { Ongoing types.now fun.now (arrays_in memo.old waits.old forms.old whats.old) out.old o (state_in fs.now ws.now n) (departing types.now fun.now w) }
+    requires ongoing { Ongoing types.now fun.now (arrays_in memo.old waits.old forms.old whats.old) out.old o s.now (departing types.now fun.now w) }
     requires come { Come types.now fun.now w }
-    ensures { Departs types.now fun.now (change memo waits forms whats) out w (state_in fs.now ws.now n) o result }
+    ensures { Departs types.now fun.now (change memo waits forms whats) out w s.now o result }
 {
     let b = w.block;
-    let p = plan_of(types, offs, fun, b, fs, ws, n);
-    if let Plan::Refused(k) = p {
-        return Visit::Refused(k);
-    }
-    let end = stop_of(fun, b);
+    let p = plan_of(types, offs, fun, b, s)?;
     let mut q = o;
-    let mut i = start_of(fun, b);
-    while i < end {
-        if op_of(fun, i) == 10 {
-            let u = target_state(types, offs, fun, p, i, fs, ws, n);
+    for i in start_of(fun, b)..stop_of(fun, b) {
+        if op_of(fun, i) == TARGET {
+            let u = target_state(types, offs, fun, p, i, s);
             let j = Jump {
                 item: i,
                 entry: false,
-                block: wide(arg_of(fun, i)),
+                block: arg_of(fun, i) as usize,
                 left: w.left,
             };
-            let v = goto(
+            q = goto(
                 types, offs, fun, points, memo, waits, forms, whats, out, j, u, q,
-            );
-            match v {
-                Visit::Over(x) => {
-                    q = x;
-                }
-                Visit::Refused(k) => {
-                    return Visit::Refused(k);
-                }
-            }
+            )?;
         }
-        i += 1;
     }
-    Visit::Over(q)
+    Ok(q)
 }
 
-// The jump from the entry to the start block. Outside the cycle of calls, so that `meet` keeps a frame of its own (docs/DECISIONS.md, stack).
+// The jump from the entry to the start block.
+// Kept: beside `goto`, outside the cycle of calls, so that `meet` keeps a frame of its own (docs/DECISIONS.md, stack).
 pub fn begin(
     types: &[u32],
     offs: &[u32],
@@ -213,7 +187,7 @@ pub fn begin(
     out: &mut [u32],
     s: State,
     o: Out,
-) -> Visit
+) -> Result<Out, Refusal>
     requires accepted { Accepted types.now offs.now fun.now }
     requires shared { Shared fun.now points.now }
     requires ongoing { Ongoing types.now fun.now (arrays_in memo.old waits.old forms.old whats.old) out.old o s (jumping types.now fun.now (start_jump fun.now)) }

@@ -1,7 +1,6 @@
--- What a walk that has ended says to a caller: it stays within open nodes (`Stays`), or what it opens, with a last step or none,
+-- What a walk that has ended says to a caller: it stays within open nodes (`Stays`), or what it opens, with one step more or none,
 -- stands in the place of a folded node (`Grafted`).
 use mathlib.Core.Path.{◌≡◌, refl, sym, ◌∙◌, ap, ap₂, subst}
-use mathlib.Core.Logic.{◌≢◌}
 use mathlib.Core.Bool.{true, false, true≢false}
 use mathlib.Core.List.{List, [], ◌∷◌, ◌++◌, append_assoc}
 use mathlib.Core.Option.{some}
@@ -9,7 +8,10 @@ use Prim.Native.Nat.{ℕ, suc, pred, ◌+◌, ◌-◌, ◌<◌, ◌≤◌}
 use native.Mathlib.Omega.{arith}
 use lib.ListN.{length, length-append, replicate-append-replicate}
 use lib.Dec.{ltb}
-use borrow.Author.Tests.{ne_eqb, ltb-true, ltb-false}
+use borrow.Author.Tests.{ltb-true, ltb-false}
+use Rattle.std.specs.Prelude.{Ok, Err, Some, None}
+use Rattle.refusal.specs.Refusal.{number}
+use Rattle.refusal.specs.declared.Refusal.{Refusal}
 use Rattle.model.specs.Words.{word}
 use Rattle.model.specs.Answer.{Answer, refused, done, ◌>>=◌}
 use Rattle.model.specs.Types.{kids}
@@ -28,9 +30,9 @@ use Rattle.walk.specs.Frame.{Frame}
 use Rattle.walk.specs.Way.{route, acts, Stepped}
 use Rattle.walk.specs.Fresh.{folded, bud, grows, stub, distance, mark, passing, trail}
 use Rattle.walk.specs.Site.{rest, Midway, Site}
-use Rattle.walk.specs.Applied.{filled, tip, opening as opening_elements}
+use Rattle.walk.specs.Applied.{filled, tip, element, opening as opening_elements}
+use Rattle.walk.specs.declared.step.More.{More}
 use Rattle.walk.specs.declared.step.Fresh.{Fresh}
-use Rattle.walk.specs.declared.step.Opened.TheVariants.{To, Refused}
 use Rattle.walk.specs.declared.along.Walk.{Walk}
 use Rattle.walk.proofs.Frames.{zeros, codess_leaves, sizes_leaves}
 use Rattle.walk.proofs.Ways.{no_index_first, route_next, length_route}
@@ -39,7 +41,7 @@ use Rattle.walk.proofs.Inks.{length_filled}
 use Rattle.walk.proofs.Places.{rest_place}
 use Rattle.walk.proofs.Sites.{rest_cons, rest_split, stopped_reached, sprung_to, type_bud, sprout_none, Arrives, passing_arrives}
 
--- A LAST STEP, which stays at its node
+-- ONE STEP MORE, which stays at its node
 
 -- what it does is done there
 inside_stays : (e : Elem) → distance e ≡ 0 → (act : Tree → Answer Tree) → inside e act ≡ act
@@ -108,16 +110,6 @@ passing_stays Γ f deref d = absurd (omega (arith, d))
 passing_stays Γ f (field i) d = absurd (omega (arith, d))
 passing_stays Γ f (downcast v) d = refl
 passing_stays Γ f index d = refl
-
--- the codes of the node reached: written by the steps alone
-pub tip_none : (Γ : List ℕ) (f : Fresh) (a : ℕ) → tip Γ f 0 a ≡ stub Γ f
-unfolding tip
-tip_none Γ f a = refl
-
--- or by a last one
-pub tip_last : (Γ : List ℕ) (f : Fresh) (o a : ℕ) → o ≢ 0 → tip Γ f o a ≡ mark Γ f (elem_of o a) ∷ []
-unfolding tip
-tip_last Γ f o a n = rw (ne_eqb o 0 n)
 
 -- WHERE A WALK ENDS
 
@@ -224,7 +216,7 @@ module _ {Γ fs ws ops args : List ℕ} {i : ℕ} {q : Spot} {x : Tree} {w : Wal
       let z : Tree = m.tree in
       let last : stops (rest ops args w.passed) ≡ true = ap (λ (n : ℕ). stops (rest ops args n)) e ∙ S.last in
       let none : w.walked - w.passed ≡ 0 = omega arith in
-      let d : To (folded w.typ 0) ≡ To w.fresh = sym (sprout_none Γ (folded w.typ 0) ops args w.passed (w.walked - w.passed) none).0 ∙ S.fresh in
+      let d : Ok (folded w.typ 0) ≡ Ok w.fresh = sym (sprout_none Γ (folded w.typ 0) ops args w.passed (w.walked - w.passed) none).0 ∙ S.fresh in
       let typed : type z ≡ w.fresh.typ = cc (fit_root m.here.fits) in
       record {
         frame = m.way.frame;
@@ -299,18 +291,19 @@ module _ {Γ fs ws ops args : List ℕ} {i : ℕ} {q : Spot} {x : Tree} {w : Wal
           );
         }
 
-    -- no last step
-    pub site_grafted : (a : ℕ) → Grafted Γ done q.place i x w.node
-        (trail Γ (folded w.typ 0) (opening_elements ops args w) ++ tip Γ w.fresh 0 a) w.fresh.added
-    site_grafted a = rw (tip_none Γ w.fresh a)
-        (grafted done (bud Γ w.fresh) (stub Γ w.fresh) (size (bud Γ w.fresh)) w.fresh.added refl (codes_bud Γ w.fresh).0 (codes_bud Γ w.fresh).1
-        sprung_counted)
+    -- no step more
+    pub site_grafted : Grafted Γ done q.place i x w.node (trail Γ (folded w.typ 0) (opening_elements ops args w) ++ tip Γ w.fresh None) w.fresh.added
+    unfolding tip
+    site_grafted =
+        grafted done (bud Γ w.fresh) (stub Γ w.fresh) (size (bud Γ w.fresh)) w.fresh.added refl (codes_bud Γ w.fresh).0 (codes_bud Γ w.fresh).1
+        sprung_counted
 
-    -- a last step that stays at its node
-    pub site_last : (o a : ℕ) → o ≢ 0 → distance (elem_of o a) ≡ 0 → {g : Fresh} → grows Γ w.fresh (elem_of o a) ≡ To g
-        → Grafted Γ (acts Γ (elem_of o a)) q.place i x w.node (trail Γ (folded w.typ 0) (opening_elements ops args w) ++ tip Γ w.fresh o a) g.added
-    site_last o a n d {g} e =
-        let el : Elem = elem_of o a in
+    -- one step more, which stays at its node
+    pub site_last : (m : More) → distance (element m) ≡ 0 → {g : Fresh} → grows Γ w.fresh (element m) ≡ Ok g
+        → Grafted Γ (acts Γ (element m)) q.place i x w.node (trail Γ (folded w.typ 0) (opening_elements ops args w) ++ tip Γ w.fresh (Some m)) g.added
+    unfolding tip
+    site_last m d {g} e =
+        let el : Elem = element m in
         let s : Sprig Γ w.fresh el g = sprig_to Γ h sprung.fine e in
         let none : passing Γ w.fresh el ≡ [] = passing_stays Γ w.fresh el d in
         let one : stub Γ g ≡ mark Γ w.fresh el ∷ [] = sym (ap (λ (l : List Code). l ++ stub Γ g) none) ∙ s.marked ∙ ap (λ (k : ℕ). mark Γ w.fresh el ∷ zeros (pred k)) d in
@@ -320,13 +313,12 @@ module _ {Γ fs ws ops args : List ℕ} {i : ℕ} {q : Spot} {x : Tree} {w : Wal
         s.coded (bud Γ g)
         ∙ ap₂ (λ (a b : List Code). a ++ (b ++ zeros s.behind)) none (codes_bud Γ g).0
         ∙ filled_more (stub Γ g) (size (bud Γ g)) s.behind (codes_bud Γ g).1 in
-        rw (tip_last Γ w.fresh o a n)
-        (grafted (acts Γ el) z (mark Γ w.fresh el ∷ []) k g.added (step_leads Γ el d s) (c ∙ ap (λ (l : List Code). filled l k) one)
-        (omega (arith, ap length one, (codes_bud Γ g).1)) (omega (arith, sprung_counted, s.counted, ap length none)))
+        grafted (acts Γ el) z (mark Γ w.fresh el ∷ []) k g.added (step_leads Γ el d s) (c ∙ ap (λ (l : List Code). filled l k) one)
+        (omega (arith, ap length one, (codes_bud Γ g).1)) (omega (arith, sprung_counted, s.counted, ap length none))
 
     -- one that is refused
-    pub site_barred : (o a : ℕ) → distance (elem_of o a) ≡ 0 → {r : ℕ} → grows Γ w.fresh (elem_of o a) ≡ Refused r
-        → walk Γ (acts Γ (elem_of o a)) q.place x ≡ refused r
-    site_barred o a d {r} e =
-        let s = subst (Grown Γ w.fresh (elem_of o a)) e (grown Γ h w.fresh sprung.fine (elem_of o a)) in
-        leads_last (acts Γ (elem_of o a)) ∙ rw (step_barred Γ (elem_of o a) d (bud Γ w.fresh) s)
+    pub site_barred : (m : More) → distance (element m) ≡ 0 → {r : Refusal} → grows Γ w.fresh (element m) ≡ Err r
+        → walk Γ (acts Γ (element m)) q.place x ≡ refused (number r)
+    site_barred m d {r} e =
+        let s = subst (Grown Γ w.fresh (element m)) e (grown Γ h w.fresh sprung.fine (element m)) in
+        leads_last (acts Γ (element m)) ∙ rw (step_barred Γ (element m) d (bud Γ w.fresh) s)

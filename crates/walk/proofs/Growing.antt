@@ -7,6 +7,9 @@ use native.Mathlib.Omega.{arith}
 use native.Mathlib.Decide.{ℕ_discrete}
 use lib.Dec.{eqb, leb}
 use lib.ListN.{length, get_or, length-append, length-replicate, replicate-append-replicate}
+use Rattle.std.specs.Prelude.{Result, Ok, Err}
+use Rattle.refusal.specs.Refusal.{number}
+use Rattle.refusal.specs.declared.Refusal.{Refusal}
 use Rattle.model.specs.Answer.{Answer, refused, done, ◌>>=◌}
 use Rattle.model.specs.Types.{ntypes, kind, count, pointer, fielded, shut, form, kids, owner, first, casts}
 use Rattle.model.specs.Tree.{Tree, leaf, node, size, leaves}
@@ -25,8 +28,6 @@ use Rattle.base.specs.Parts.{length_kids, kids_at}
 use Rattle.walk.specs.Way.{acts}
 use Rattle.walk.specs.Fresh.{folded, widened, Bud, bud, grows_open, grows_folded, grows, sprout, stub, variant, distance, mark, passing, trail}
 use Rattle.walk.specs.declared.step.Fresh.{Fresh}
-use Rattle.walk.specs.declared.step.Opened.{Opened}
-use Rattle.walk.specs.declared.step.Opened.TheVariants.{To, Refused}
 use Rattle.walk.proofs.Ways.{walk_acts, reached_next, no_index_first, no_index_rest}
 use Rattle.walk.proofs.Frames.{put, zeros, nth_put, nth_past, firsts_leaves, beyond_leaves, sizes_leaves, pick_leaves, below_coded}
 
@@ -46,9 +47,9 @@ pub record Sprig (Γ : List ℕ) (f : Fresh) (e : Elem) (g : Fresh) : Type 0 whe
   pub fine : stops (e ∷ []) ≡ false → Bud Γ g
 
 -- what a step gives
-abbrev pub Grown : (Γ : List ℕ) (f : Fresh) (e : Elem) → Opened → Type 0
-Grown Γ f e (To g) = Sprig Γ f e g
-Grown Γ f e (Refused r) = (act : Tree → Answer Tree) → acts Γ e (bud Γ f) >>= inside e act ≡ refused r
+abbrev pub Grown : (Γ : List ℕ) (f : Fresh) (e : Elem) → Result Fresh Refusal → Type 0
+Grown Γ f e (Ok g) = Sprig Γ f e g
+Grown Γ f e (Err r) = (act : Tree → Answer Tree) → acts Γ e (bud Γ f) >>= inside e act ≡ refused (number r)
 
 -- a node has few children
 pub kids_few : {Γ : List ℕ} → Typed Γ → (t v : ℕ) → t < ntypes Γ → (kind Γ t ≡ 7 → v < count Γ t) → length (kids Γ t v) ≤ 16384
@@ -220,7 +221,7 @@ module _ (Γ : List ℕ) where
         (sym o) (grown_folded f.typ f.what f.added b.known e))
 
     -- where a step leads
-    pub sprig_to : {f g : Fresh} {e : Elem} → Bud Γ f → grows Γ f e ≡ To g → Sprig Γ f e g
+    pub sprig_to : {f g : Fresh} {e : Elem} → Bud Γ f → grows Γ f e ≡ Ok g → Sprig Γ f e g
     sprig_to {f} {g} {e} b d = subst (Grown Γ f e) d (grown f b e)
 
 -- STEPS IN A ROW
@@ -237,24 +238,24 @@ pub record Sprung (Γ : List ℕ) (f : Fresh) (es : Place) (g : Fresh) : Type 0 
   pub fine : Bud Γ g
 
 -- what the walk by types gives
-abbrev pub Sprouted : (Γ : List ℕ) (f : Fresh) (es : Place) → Opened → Type 0
-Sprouted Γ f es (To g) = Sprung Γ f es g
-Sprouted Γ f es (Refused r) = (q : Place) (act : Tree → Answer Tree) → walk Γ act (es ++ q) (bud Γ f) ≡ refused r
+abbrev pub Sprouted : (Γ : List ℕ) (f : Fresh) (es : Place) → Result Fresh Refusal → Type 0
+Sprouted Γ f es (Ok g) = Sprung Γ f es g
+Sprouted Γ f es (Err r) = (q : Place) (act : Tree → Answer Tree) → walk Γ act (es ++ q) (bud Γ f) ≡ refused (number r)
 
 module _ (Γ : List ℕ) where
   module _ (f : Fresh) (e : Elem) (es : Place) where
     -- the first step of several
-    pub sprout_to : {g : Fresh} → grows Γ f e ≡ To g → sprout Γ f (e ∷ es) ≡ sprout Γ g es
+    pub sprout_to : {g : Fresh} → grows Γ f e ≡ Ok g → sprout Γ f (e ∷ es) ≡ sprout Γ g es
     unfolding sprout
     sprout_to d = cc
 
     -- one that is refused
-    pub sprout_refused : {r : ℕ} → grows Γ f e ≡ Refused r → sprout Γ f (e ∷ es) ≡ Refused r
+    pub sprout_refused : {r : Refusal} → grows Γ f e ≡ Err r → sprout Γ f (e ∷ es) ≡ Err r
     unfolding sprout
     sprout_refused d = cc
 
     -- its codes
-    pub trail_to : {g : Fresh} → grows Γ f e ≡ To g → trail Γ f (e ∷ es) ≡ passing Γ f e ++ trail Γ g es
+    pub trail_to : {g : Fresh} → grows Γ f e ≡ Ok g → trail Γ f (e ∷ es) ≡ passing Γ f e ++ trail Γ g es
     unfolding trail
     trail_to d = cc
 
@@ -274,7 +275,7 @@ module _ (Γ : List ℕ) where
       }
 
   -- a step, then others
-  pub sprung_more : {f g k : Fresh} (e : Elem) (es : Place) → stops (e ∷ []) ≡ false → grows Γ f e ≡ To g → Sprig Γ f e g → Sprung Γ g es k → Sprung Γ f (e ∷ es) k
+  pub sprung_more : {f g k : Fresh} (e : Elem) (es : Place) → stops (e ∷ []) ≡ false → grows Γ f e ≡ Ok g → Sprig Γ f e g → Sprung Γ g es k → Sprung Γ f (e ∷ es) k
   sprung_more {f} {g} {k} e es n d s r =
       let t : trail Γ f (e ∷ es) ≡ passing Γ f e ++ trail Γ g es = trail_to f e es d in
       record {
@@ -304,11 +305,11 @@ module _ (Γ : List ℕ) where
       first : stops (e ∷ []) ≡ false
       first = no_index_first e es n
 
-      more : {g : Fresh} → grows Γ f e ≡ To g → Sprig Γ f e g → (o : Opened) → Sprouted Γ g es o → Sprouted Γ f (e ∷ es) o
-      more d s (To k) r = sprung_more e es first d s r
-      more {g} d s (Refused k) r = λ q act. walk_acts Γ e (es ++ q) first act (bud Γ f) ∙ s.leads (walk Γ act (es ++ q)) ∙ rw (r q act)
+      more : {g : Fresh} → grows Γ f e ≡ Ok g → Sprig Γ f e g → (o : Result Fresh Refusal) → Sprouted Γ g es o → Sprouted Γ f (e ∷ es) o
+      more d s (Ok k) r = sprung_more e es first d s r
+      more {g} d s (Err k) r = λ q act. walk_acts Γ e (es ++ q) first act (bud Γ f) ∙ s.leads (walk Γ act (es ++ q)) ∙ rw (r q act)
 
-      one : (o : Opened) → grows Γ f e ≡ o → Grown Γ f e o → ((g : Fresh) → Bud Γ g → Sprouted Γ g es (sprout Γ g es))
-          → Sprouted Γ f (e ∷ es) (elim o [ To g ↦ sprout Γ g es | Refused r ↦ Refused r ])
-      one (To g) d s rest = more d s (sprout Γ g es) (rest g (s.fine first))
-      one (Refused r) d s rest = λ q act. walk_acts Γ e (es ++ q) first act (bud Γ f) ∙ s (walk Γ act (es ++ q))
+      one : (o : Result Fresh Refusal) → grows Γ f e ≡ o → Grown Γ f e o → ((g : Fresh) → Bud Γ g → Sprouted Γ g es (sprout Γ g es))
+          → Sprouted Γ f (e ∷ es) (elim o [ Ok g ↦ sprout Γ g es | Err r ↦ Err r ])
+      one (Ok g) d s rest = more d s (sprout Γ g es) (rest g (s.fine first))
+      one (Err r) d s rest = λ q act. walk_acts Γ e (es ++ q) first act (bud Γ f) ∙ s (walk Γ act (es ++ q))

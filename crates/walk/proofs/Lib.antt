@@ -1,6 +1,7 @@
 -- The laws that the proofs of walk share. In the order in which they build on each other:
--- items and the place that they say
+-- items and the place that they say; kinds
 pub mod Items
+pub mod KindTests
 -- trees with the place of one node left open
 pub mod Frames
 -- the walk through open nodes

@@ -8,6 +8,9 @@ use native.Mathlib.Omega.{arith}
 use native.Mathlib.Decide.{dec_lt}
 use lib.ListN.{length, length-append}
 use borrow.Author.Tests.{eq-eqb, ne_eqb}
+use Rattle.std.specs.Prelude.{Ok, Err}
+use Rattle.refusal.specs.Refusal.{number}
+use Rattle.refusal.specs.declared.Refusal.{Refusal}
 use Rattle.model.specs.Words.{word}
 use Rattle.model.specs.Answer.{Answer, refused, done, ◌>>=◌}
 use Rattle.model.specs.Types.{ntypes, kind}
@@ -26,7 +29,6 @@ use Rattle.walk.specs.Way.{route, acts, Stepped, Way}
 use Rattle.walk.specs.Fresh.{folded, Bud, bud, sprout, trail}
 use Rattle.walk.specs.Site.{rest, Midway, Passing}
 use Rattle.walk.specs.declared.step.Fresh.{Fresh}
-use Rattle.walk.specs.declared.step.Opened.TheVariants.{To, Refused}
 use Rattle.walk.specs.declared.along.Through.{Through}
 use Rattle.walk.proofs.Frames.{within, zeros}
 use Rattle.walk.proofs.Ways.{way_here, way_then, way_step, walk_acts, route_cons, route_split}
@@ -159,7 +161,7 @@ pub bud_folded : {Γ : List ℕ} (t n : ℕ) → t < ntypes Γ → Bud Γ (folde
 bud_folded t n l = record { known = l; cast = λ o. absurd (true≢false (sym o)) }
 
 -- no element is left
-pub sprout_none : (Γ : List ℕ) (f : Fresh) (ops args : List ℕ) (i n : ℕ) → n ≡ 0 → (sprout Γ f (route ops args i n) ≡ To f) × (trail Γ f (route ops args i n) ≡ [])
+pub sprout_none : (Γ : List ℕ) (f : Fresh) (ops args : List ℕ) (i n : ℕ) → n ≡ 0 → (sprout Γ f (route ops args i n) ≡ Ok f) × (trail Γ f (route ops args i n) ≡ [])
 unfolding sprout route trail
 sprout_none Γ f ops args i n e = (rw e, rw e)
 
@@ -179,17 +181,17 @@ module _ {Γ fs ws ops args : List ℕ} {e i : ℕ} {x : Tree} {th : Through} (P
   by_types = sprouted Γ h (route ops args th.at (e - th.at)) plain (folded th.typ 0) (bud_folded th.typ 0 P.midway.known)
 
   -- it leads to g
-  pub sprung_to : {g : Fresh} → sprout Γ (folded th.typ 0) (route ops args th.at (e - th.at)) ≡ To g
+  pub sprung_to : {g : Fresh} → sprout Γ (folded th.typ 0) (route ops args th.at (e - th.at)) ≡ Ok g
       → Sprung Γ (folded th.typ 0) (route ops args th.at (e - th.at)) g
   sprung_to d = subst (Sprouted Γ (folded th.typ 0) (route ops args th.at (e - th.at))) d by_types
 
   -- no step is left
-  none_left : ¬ (th.at < e) → (e ≡ th.at) × (sprout Γ (folded th.typ 0) (route ops args th.at (e - th.at)) ≡ To (folded th.typ 0))
+  none_left : ¬ (th.at < e) → (e ≡ th.at) × (sprout Γ (folded th.typ 0) (route ops args th.at (e - th.at)) ≡ Ok (folded th.typ 0))
   none_left n = (omega (arith, P.most), (sprout_none Γ (folded th.typ 0) ops args th.at (e - th.at) (omega arith)).0)
 
   -- it is refused
-  pub passing_refused : {r : ℕ} → sprout Γ (folded th.typ 0) (route ops args th.at (e - th.at)) ≡ Refused r
-      → (act : Tree → Answer Tree) → walk Γ act (rest ops args 1) x ≡ refused r
+  pub passing_refused : {r : Refusal} → sprout Γ (folded th.typ 0) (route ops args th.at (e - th.at)) ≡ Err r
+      → (act : Tree → Answer Tree) → walk Γ act (rest ops args 1) x ≡ refused (number r)
   unfolding bud
   passing_refused {r} d act =
       let m = P.midway in
@@ -203,7 +205,7 @@ module _ {Γ fs ws ops args : List ℕ} {e i : ℕ} {x : Tree} {th : Through} (P
       ]
 
   -- it ends at a node
-  pub passing_arrives : {g : Fresh} → sprout Γ (folded th.typ 0) (route ops args th.at (e - th.at)) ≡ To g
+  pub passing_arrives : {g : Fresh} → sprout Γ (folded th.typ 0) (route ops args th.at (e - th.at)) ≡ Ok g
       → Arrives Γ (rest ops args 1) x (rest ops args e) g.typ
   passing_arrives {g} d =
       let m = P.midway in
@@ -214,7 +216,7 @@ module _ {Γ fs ws ops args : List ℕ} {e i : ℕ} {x : Tree} {th : Through} (P
           arrived = arrived_fresh (route ops args th.at (e - th.at)) (rest ops args e) m.way (rest_split ops args th.at e P.most l) (P.folded n) (sprung_to d);
         }
         | no n ↦
-            let f : To (folded th.typ 0) ≡ To g = sym (none_left n).1 ∙ d in
+            let f : Ok (folded th.typ 0) ≡ Ok g = sym (none_left n).1 ∙ d in
             record {
               node = m.tree;
               typed = cc (fit_root m.here.fits);

@@ -5,6 +5,8 @@ use mathlib.Core.List.{List, [], ◌∷◌, ◌++◌, append_assoc, append-nil}
 use Prim.Native.Nat.{ℕ, suc, pred, ◌+◌, ◌*◌, ◌-◌, ◌<◌, ◌≤◌}
 use native.Mathlib.Omega.{arith}
 use lib.ListN.{length, set, length-append, length-replicate, length-set}
+use Rattle.std.specs.Prelude.{Result, Ok, Err}
+use Rattle.refusal.specs.declared.Refusal.{Refusal}
 use Rattle.model.specs.Words.{word}
 use Rattle.model.specs.Types.{ntypes, kind, form}
 use Rattle.model.specs.Tree.{size}
@@ -18,8 +20,6 @@ use Rattle.walk.specs.Way.{route}
 use Rattle.walk.specs.Fresh.{folded, Bud, bud, grows, sprout, stub, variant, distance, mark, passing, trail}
 use Rattle.walk.specs.Applied.{marked, Inked, Penned}
 use Rattle.walk.specs.declared.step.Fresh.{Fresh}
-use Rattle.walk.specs.declared.step.Opened.{Opened}
-use Rattle.walk.specs.declared.step.Opened.TheVariants.{To, Refused}
 use Rattle.walk.proofs.Frames.{zeros}
 use Rattle.walk.proofs.Ways.{route_next, no_index_first, no_index_rest}
 use Rattle.walk.proofs.Growing.{Sprig, sprig_to, Sprung, Sprouted, sprouted, sprout_to, sprout_refused, trail_to}
@@ -42,7 +42,7 @@ turn_start {typ = typ} l k p = record { least = omega arith; most = l; fine = bu
 
 module _ {Γ ops args : List ℕ} {from end typ : ℕ} {f : Fresh} {at : ℕ} (t : Turn Γ ops args from end typ f at) where
   -- at the end
-  pub turn_done : end ≤ at → sprout Γ (folded typ 0) (route ops args from (end - from)) ≡ To f
+  pub turn_done : end ≤ at → sprout Γ (folded typ 0) (route ops args from (end - from)) ≡ Ok f
   turn_done l = let z : end - at ≡ 0 = omega arith in t.same ∙ (sprout_none Γ f ops args at (end - at) z).0
 
   module _ (l : at < end) where
@@ -66,11 +66,11 @@ module _ {Γ ops args : List ℕ} {from end typ : ℕ} {f : Fresh} {at : ℕ} (t
     same_here = t.same ∙ ap (sprout Γ f) (route_next ops args at end l)
 
     -- a refusal is the walk's
-    pub turn_refused : {r : ℕ} → grows Γ f here ≡ Refused r → Refused r ≡ sprout Γ (folded typ 0) (route ops args from (end - from))
+    pub turn_refused : {r : Refusal} → grows Γ f here ≡ Err r → Err r ≡ sprout Γ (folded typ 0) (route ops args from (end - from))
     turn_refused d = sym (same_here ∙ sprout_refused Γ f here others d)
 
     -- a step leads on
-    pub turn_more : Typed Γ → {g : Fresh} → grows Γ f here ≡ To g → Turn Γ ops args from end typ g (at + 1)
+    pub turn_more : Typed Γ → {g : Fresh} → grows Γ f here ≡ Ok g → Turn Γ ops args from end typ g (at + 1)
     turn_more h d =
         let s = sprig_to Γ h t.fine d in
         record {
@@ -87,16 +87,16 @@ module _ {Γ ops args : List ℕ} {from end typ : ℕ} {f : Fresh} {at : ℕ} (t
 -- the first step of a walk that is not refused
 pub record First (Γ : List ℕ) (f : Fresh) (e : Elem) (es : Place) (g : Fresh) : Type 0 where
   pub to : Fresh
-  pub leads : grows Γ f e ≡ To to
-  pub rest : sprout Γ to es ≡ To g
+  pub leads : grows Γ f e ≡ Ok to
+  pub rest : sprout Γ to es ≡ Ok g
 
 -- that it has one
-first : (Γ : List ℕ) (f : Fresh) (e : Elem) (es : Place) {g : Fresh} → sprout Γ f (e ∷ es) ≡ To g → First Γ f e es g
+first : (Γ : List ℕ) (f : Fresh) (e : Elem) (es : Place) {g : Fresh} → sprout Γ f (e ∷ es) ≡ Ok g → First Γ f e es g
 first Γ f e es {g} d = by (grows Γ f e) refl
   where
-    by : (o : Opened) → grows Γ f e ≡ o → First Γ f e es g
-    by (To k) p = record { to = k; leads = p; rest = sym (sprout_to Γ f e es p) ∙ d }
-    by (Refused r) p = let z : ◌≡◌ {A = ℕ} 0 1 = cc (sprout_refused Γ f e es p) in absurd (omega arith)
+    by : (o : Result Fresh Refusal) → grows Γ f e ≡ o → First Γ f e es g
+    by (Ok k) p = record { to = k; leads = p; rest = sym (sprout_to Γ f e es p) ∙ d }
+    by (Err r) p = let z : ◌≡◌ {A = ℕ} 0 1 = cc (sprout_refused Γ f e es p) in absurd (omega arith)
 
 -- the node's own code, as far as it is written
 stub_open : (Γ : List ℕ) (f : Fresh) (e : Elem) → f.opened ≡ true → stub Γ f ≡ mark Γ f e ∷ []
@@ -139,7 +139,7 @@ unfolding marked
 length_marked b l i v = split b (λ o. rw o) (λ o. rw o (length-set l i v))
 
 -- two ends of one walk are the same
-pub to_same : {f g : Fresh} → To f ≡ To g → f ≡ g
+pub to_same : {f g : Fresh} → ◌≡◌ {A = Result Fresh Refusal} (Ok f) (Ok g) → f ≡ g
 to_same e = cc
 
 -- what a step writes over what stands: the node's own code
@@ -185,12 +185,12 @@ writing_start {i = i} {fs = fs} {ws} t =
     }
 
 module _ {Γ ops args : List ℕ} {from end typ i : ℕ} {g : Fresh} {fs ws fs' ws' : List ℕ} {f : Fresh} {p at : ℕ} (h : Typed Γ)
-    (w : Writing Γ ops args from end typ i g fs ws fs' ws' f p at) (d : sprout Γ (folded typ 0) (route ops args from (end - from)) ≡ To g) where
+    (w : Writing Γ ops args from end typ i g fs ws fs' ws' f p at) (d : sprout Γ (folded typ 0) (route ops args from (end - from)) ≡ Ok g) where
   -- at the end
   pub writing_done : end ≤ at → Penned Γ (route ops args from (end - from)) typ i fs ws fs' ws' (record { at = p; fresh = f }) g
   writing_done l =
       let z : end - at ≡ 0 = omega arith in
-      let e : To f ≡ To g = sym (turn_done w.turn l) ∙ d in
+      let e : Ok f ≡ Ok g = sym (turn_done w.turn l) ∙ d in
       let same : f ≡ g = cc in
       let all : trail Γ (folded typ 0) (route ops args from (end - from)) ≡ w.past =
       w.trails ∙ ap (λ (cs : List Code). w.past ++ cs) (sprout_none Γ f ops args at (end - at) z).1 ∙ append-nil w.past in
@@ -203,13 +203,9 @@ module _ {Γ ops args : List ℕ} {from end typ i : ℕ} {g : Fresh} {fs ws fs' 
       }
 
   module _ (l : at < end) where
-    -- the step is not refused
-    writing_first : First Γ f (elem_of (word ops at) (word args at)) (route ops args (at + 1) (end - (at + 1))) g
+    -- the step is not refused, but leads on
+    pub writing_first : First Γ f (elem_of (word ops at) (word args at)) (route ops args (at + 1) (end - (at + 1))) g
     writing_first = first Γ f (elem_of (word ops at) (word args at)) (route ops args (at + 1) (end - (at + 1))) (sym (same_here w.turn l) ∙ d)
-
-    -- so no step is one that is refused
-    pub writing_going : {r : ℕ} → grows Γ f (elem_of (word ops at) (word args at)) ≡ Refused r → ⊥
-    writing_going e = let z : ◌≡◌ {A = ℕ} 0 1 = cc writing_first.leads in omega (arith, z)
 
     -- what it does
     sprig : Sprig Γ f (elem_of (word ops at) (word args at)) writing_first.to
@@ -238,13 +234,13 @@ module _ {Γ ops args : List ℕ} {from end typ i : ℕ} {g : Fresh} {fs ws fs' 
     -- one step more
     pub writing_more : {fs'' ws'' : List ℕ} {q : ℕ} → fs'' ≡ marked f.opened fs' p (form (kind Γ f.typ))
         → ws'' ≡ marked f.opened ws' p (variant (elem_of (word ops at) (word args at)))
-        → q ≡ p + distance (elem_of (word ops at) (word args at)) → {k : Fresh} → grows Γ f (elem_of (word ops at) (word args at)) ≡ To k
+        → q ≡ p + distance (elem_of (word ops at) (word args at)) → {k : Fresh} → grows Γ f (elem_of (word ops at) (word args at)) ≡ Ok k
         → Writing Γ ops args from end typ i g fs ws fs'' ws'' k q (at + 1)
     writing_more {fs''} {ws''} {q} ef ew eq {k} dk =
         let e : Elem = elem_of (word ops at) (word args at) in
         let s : Sprig Γ f e k = sprig_to Γ h w.turn.fine dk in
         let r : List Code = w.past in
-        let same : To k ≡ To writing_first.to = sym dk ∙ writing_first.leads in
+        let same : Ok k ≡ Ok writing_first.to = sym dk ∙ writing_first.leads in
         let few : k.added ≤ g.added = rw (to_same same) within_all in
         let long : suc (pred (distance e)) ≡ length (passing Γ f e) + length (stub Γ k) =
         ap suc (sym (length-replicate (pred (distance e)) (0, 0))) ∙ sym (ap length s.marked) ∙ length-append (passing Γ f e) (stub Γ k) in

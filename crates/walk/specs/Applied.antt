@@ -1,5 +1,5 @@
 -- What the code that opens and folds nodes does to the two arrays of a state, as lists of codes.
-use Rattle.std.specs.Prelude.{◌≡◌, ◌≢◌, Bool, true, cond, List, [], ◌∷◌, ◌++◌, map, ℕ, suc, ◌+◌, ◌-◌, ◌≤◌, ◌<◌, length, set, replicate, eqb}
+use Rattle.std.specs.Prelude.{◌≡◌, Bool, true, cond, List, [], ◌∷◌, ◌++◌, map, ℕ, suc, ◌+◌, ◌-◌, ◌≤◌, ◌<◌, length, set, replicate, Option, Some, None, Ok}
 use Rattle.model.specs.Types.{ntypes, kind, form}
 use Rattle.model.specs.Tree.{Tree}
 use Rattle.model.specs.State.{Code, codes, padded}
@@ -10,7 +10,7 @@ use Rattle.state.specs.declared.nodes.State.{State}
 use Rattle.walk.specs.Way.{route}
 use Rattle.walk.specs.Fresh.{folded, variant, grows, sprout, trail, stub, mark}
 use Rattle.walk.specs.declared.step.Fresh.{Fresh}
-use Rattle.walk.specs.declared.step.Opened.TheVariants.{To}
+use Rattle.walk.specs.declared.step.More.{More}
 use Rattle.walk.specs.declared.along.Walk.{Walk}
 use Rattle.walk.specs.declared.apply.Pen.{Pen}
 
@@ -40,7 +40,7 @@ Stretch ops args from end = (from ≤ end) × (end ≤ length ops) × (end ≤ l
 -- there is room for what the walk by types opens, from i on
 pub record Room (Γ : List ℕ) (es : Place) (t i : ℕ) (fs ws : List ℕ) : Type 0 where
   pub end : Fresh
-  pub leads : sprout Γ (folded t 0) es ≡ To end
+  pub leads : sprout Γ (folded t 0) es ≡ Ok end
   pub forms : i + suc end.added ≤ length fs
   pub whats : i + suc end.added ≤ length ws
 
@@ -53,11 +53,21 @@ pub record Penned (Γ : List ℕ) (es : Place) (t i : ℕ) (fs ws fs' ws' : List
 
 -- wherever the walk by types leads
 abbrev pub Pens : List ℕ → Place → ℕ → ℕ → List ℕ → List ℕ → List ℕ → List ℕ → Pen → Type 0
-Pens Γ es t i fs ws fs' ws' p = (g : Fresh) → sprout Γ (folded t 0) es ≡ To g → Penned Γ es t i fs ws fs' ws' p g
+Pens Γ es t i fs ws fs' ws' p = (g : Fresh) → sprout Γ (folded t 0) es ≡ Ok g → Penned Γ es t i fs ws fs' ws' p g
 
--- the codes of the node that the walk has come to, with a last step or none
-unfoldable pub tip : List ℕ → Fresh → ℕ → ℕ → List Code
-tip Γ f o a = cond (eqb o 0) (stub Γ f) (mark Γ f (elem_of o a) ∷ [])
+-- the element that one step more is
+abbrev pub element : More → Elem
+element m = elem_of m.op m.arg
+
+-- one step more, if there is one, leads from f to g
+abbrev pub Adds : List ℕ → Fresh → Option More → Fresh → Type 0
+Adds Γ f None g = f ≡ g
+Adds Γ f (Some m) g = grows Γ f (element m) ≡ Ok g
+
+-- the codes of the node that the walk has come to, with one step more or none
+unfoldable pub tip : List ℕ → Fresh → Option More → List Code
+tip Γ f None = stub Γ f
+tip Γ f (Some m) = mark Γ f (element m) ∷ []
 
 -- codes, and zeros behind them, n in all
 unfoldable pub filled : List Code → ℕ → List Code
@@ -67,9 +77,9 @@ filled cs n = cs ++ replicate (n - length cs) (0, 0)
 abbrev pub opening : List ℕ → List ℕ → Walk → Place
 opening ops args w = route ops args w.passed (w.walked - w.passed)
 
--- the walk w of the state s is to be carried out: by types it leads to `before`, and from there with the last step, if there
+-- the walk w of the state s is to be carried out: by types it leads to `before`, and from there with one step more, if there
 -- is one, to what w says; the state has room for what that adds
-pub record Opens (Γ ops args : List ℕ) (s : State) (w : Walk) (last last_arg : ℕ) : Type 0 where
+pub record Opens (Γ ops args : List ℕ) (s : State) (w : Walk) (more : Option More) : Type 0 where
   pub known : w.typ < ntypes Γ
   pub least : w.passed ≤ w.walked
   pub in_ops : w.walked ≤ length ops
@@ -77,9 +87,8 @@ pub record Opens (Γ ops args : List ℕ) (s : State) (w : Walk) (last last_arg 
   pub few : w.walked ≤ 256
   pub plain : no_index (opening ops args w) ≡ true
   pub before : Fresh
-  pub leads : sprout Γ (folded w.typ 0) (opening ops args w) ≡ To before
-  pub none : last ≡ 0 → before ≡ w.fresh
-  pub some : last ≢ 0 → grows Γ before (elem_of last last_arg) ≡ To w.fresh
+  pub leads : sprout Γ (folded w.typ 0) (opening ops args w) ≡ Ok before
+  pub adds : Adds Γ before more w.fresh
   pub front : List Code
   pub back : List Code
   pub coded : Encoded s (front ++ ((0, 0) ∷ back))
@@ -87,10 +96,10 @@ pub record Opens (Γ ops args : List ℕ) (s : State) (w : Walk) (last last_arg 
   pub room : s.nodes + w.fresh.added ≤ 512
 
 -- it is: r has the codes of what was opened in the place of the folded node
-pub record Carried (Γ ops args : List ℕ) (s : State) (w : Walk) (last last_arg : ℕ) (r : State) : Type 0 where
+pub record Carried (Γ ops args : List ℕ) (s : State) (w : Walk) (more : Option More) (r : State) : Type 0 where
   pub coded : (b e : List Code) (f : Fresh) → Encoded s (b ++ ((0, 0) ∷ e)) → length b ≡ w.node
-      → sprout Γ (folded w.typ 0) (opening ops args w) ≡ To f
-      → Encoded r (b ++ (filled (trail Γ (folded w.typ 0) (opening ops args w) ++ tip Γ f last last_arg) (suc w.fresh.added) ++ e))
+      → sprout Γ (folded w.typ 0) (opening ops args w) ≡ Ok f
+      → Encoded r (b ++ (filled (trail Γ (folded w.typ 0) (opening ops args w) ++ tip Γ f more) (suc w.fresh.added) ++ e))
 
 -- the node at i of the state s, of type t, is to be folded: its codes stand between those of the others
 pub record Folds (Γ : List ℕ) (s : State) (i t : ℕ) : Type 0 where

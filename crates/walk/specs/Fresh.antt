@@ -1,14 +1,14 @@
 -- The walk by types alone, from a folded node: what each step opens (`grows`), where it leads (`sprout`), and the codes of the
 -- nodes before the one that it leads to (`trail`).
-use Rattle.std.specs.Prelude.{◌≡◌, true, false, cond, List, [], ◌∷◌, ◌++◌, ℕ, suc, ◌+◌, ◌<◌, length, get_or, replicate, eqb, leb}
+use Rattle.std.specs.Prelude.{◌≡◌, true, false, cond, List, [], ◌∷◌, ◌++◌, ℕ, suc, ◌+◌, ◌<◌, length, get_or, replicate, eqb, leb, Result, Ok, Err}
 use Rattle.model.specs.Types.{ntypes, kind, pointer, fielded, shut, form, kids, casts}
 use Rattle.model.specs.Tree.{Tree, leaf}
 use Rattle.model.specs.State.{Code}
 use Rattle.model.specs.Place.{Elem, deref, field, downcast, index, Place}
 use Rattle.model.specs.Walk.{opened}
+use Rattle.refusal.specs.declared.Refusal.{Refusal}
+use Rattle.refusal.specs.declared.Refusal.TheVariants.{WrongStep, OtherVariant, BareVariant}
 use Rattle.walk.specs.declared.step.Fresh.{Fresh}
-use Rattle.walk.specs.declared.step.Opened.{Opened}
-use Rattle.walk.specs.declared.step.Opened.TheVariants.{To, Refused}
 
 -- a folded node of type t, behind which n nodes were added
 abbrev pub folded : ℕ → ℕ → Fresh
@@ -43,29 +43,29 @@ module _ (Γ : List ℕ) where
   bud f = cond f.opened (opened Γ f.typ f.what) (leaf f.typ)
 
   -- from a node that the walk has opened
-  unfoldable pub grows_open : ℕ → ℕ → ℕ → Elem → Opened
-  grows_open t v n deref = Refused 5
-  grows_open t v n (field i) = cond (leb (length (kids Γ t v)) i) (Refused 5) (To (folded (get_or (kids Γ t v) i 0) n))
-  grows_open t v n (downcast w) = cond (casts Γ t w) (cond (eqb w v) (To (widened t v n)) (Refused 6)) (Refused 5)
-  grows_open t v n index = To (widened t v n)
+  unfoldable pub grows_open : ℕ → ℕ → ℕ → Elem → Result Fresh Refusal
+  grows_open t v n deref = Err WrongStep
+  grows_open t v n (field i) = cond (leb (length (kids Γ t v)) i) (Err WrongStep) (Ok (folded (get_or (kids Γ t v) i 0) n))
+  grows_open t v n (downcast w) = cond (casts Γ t w) (cond (eqb w v) (Ok (widened t v n)) (Err OtherVariant)) (Err WrongStep)
+  grows_open t v n index = Ok (widened t v n)
 
   -- from a folded node
-  unfoldable pub grows_folded : ℕ → ℕ → Elem → Opened
-  grows_folded t n deref = cond (pointer (kind Γ t)) (To (folded (get_or (kids Γ t 0) 0 0) (n + 1))) (Refused 5)
+  unfoldable pub grows_folded : ℕ → ℕ → Elem → Result Fresh Refusal
+  grows_folded t n deref = cond (pointer (kind Γ t)) (Ok (folded (get_or (kids Γ t 0) 0 0) (n + 1))) (Err WrongStep)
   grows_folded t n (field i) = cond (fielded (kind Γ t))
-      (cond (leb (length (kids Γ t 0)) i) (Refused 5) (To (folded (get_or (kids Γ t 0) i 0) (n + length (kids Γ t 0)))))
-      (Refused 5)
-  grows_folded t n (downcast v) = cond (casts Γ t v) (To (widened t v (n + length (kids Γ t v)))) (Refused 5)
-  grows_folded t n index = cond (shut (kind Γ t)) (Refused 5)
-      (cond (eqb (kind Γ t) 7) (Refused 7) (To (widened t 0 (n + length (kids Γ t 0)))))
+      (cond (leb (length (kids Γ t 0)) i) (Err WrongStep) (Ok (folded (get_or (kids Γ t 0) i 0) (n + length (kids Γ t 0)))))
+      (Err WrongStep)
+  grows_folded t n (downcast v) = cond (casts Γ t v) (Ok (widened t v (n + length (kids Γ t v)))) (Err WrongStep)
+  grows_folded t n index = cond (shut (kind Γ t)) (Err WrongStep)
+      (cond (eqb (kind Γ t) 7) (Err BareVariant) (Ok (widened t 0 (n + length (kids Γ t 0)))))
 
-  unfoldable pub grows : Fresh → Elem → Opened
+  unfoldable pub grows : Fresh → Elem → Result Fresh Refusal
   grows f e = cond f.opened (grows_open f.typ f.what f.added e) (grows_folded f.typ f.added e)
 
   -- along a place
-  unfoldable pub sprout : Fresh → Place → Opened
-  sprout f [] = To f
-  sprout f (e ∷ es) = elim (grows f e) [ To g ↦ sprout g es | Refused r ↦ Refused r ]
+  unfoldable pub sprout : Fresh → Place → Result Fresh Refusal
+  sprout f [] = Ok f
+  sprout f (e ∷ es) = elim (grows f e) [ Ok g ↦ sprout g es | Err r ↦ Err r ]
 
   -- CODES
 
@@ -86,4 +86,4 @@ module _ (Γ : List ℕ) where
 
   unfoldable pub trail : Fresh → Place → List Code
   trail f [] = []
-  trail f (e ∷ es) = passing f e ++ elim (grows f e) [ To g ↦ trail g es | Refused r ↦ [] ]
+  trail f (e ∷ es) = passing f e ++ elim (grows f e) [ Ok g ↦ trail g es | Err r ↦ [] ]

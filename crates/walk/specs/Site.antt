@@ -1,6 +1,6 @@
 -- What a walk along a place finds: how far open nodes lead (`Passes`), how far types lead from there (`onward`), and where
 -- it ends (`Walks`). The place is said by items from the second on; the first is the root.
-use Rattle.std.specs.Prelude.{◌≡◌, true, List, ℕ, suc, ◌+◌, ◌-◌, ◌<◌, ◌≤◌, length}
+use Rattle.std.specs.Prelude.{◌≡◌, true, List, ℕ, suc, ◌+◌, ◌-◌, ◌<◌, ◌≤◌, length, Result, Ok, Err}
 use Rattle.std.proofs.Math.Option.{some}
 use Rattle.model.specs.Answer.{Answer, refused}
 use Rattle.model.specs.Types.{ntypes}
@@ -9,18 +9,14 @@ use Rattle.model.specs.Place.{Place, Spot, walked, stops, no_index}
 use Rattle.model.specs.Walk.{walk}
 use Rattle.model.specs.Calls.{spot_of}
 use Rattle.records.specs.Here.{Coded}
+use Rattle.refusal.specs.Refusal.{number}
+use Rattle.refusal.specs.declared.Refusal.{Refusal}
 use Rattle.walk.specs.Way.{route, Way}
 use Rattle.walk.specs.Fresh.{folded, sprout}
-use Rattle.walk.specs.declared.step.Opened.{Opened}
-use Rattle.walk.specs.declared.step.Opened.TheVariants.{To as Came, Refused as Barred}
-use Rattle.walk.specs.declared.along.Led.{Led}
-use Rattle.walk.specs.declared.along.Led.TheVariants.{To as Onto, Refused as Halted}
-use Rattle.walk.specs.declared.along.Passed.{Passed}
-use Rattle.walk.specs.declared.along.Passed.TheVariants.{To, Refused}
+use Rattle.walk.specs.declared.step.Fresh.{Fresh}
+use Rattle.walk.specs.declared.along.Onward.{Onward}
 use Rattle.walk.specs.declared.along.Through.{Through}
 use Rattle.walk.specs.declared.along.Walk.{Walk}
-use Rattle.walk.specs.declared.along.Walked.{Walked}
-use Rattle.walk.specs.declared.along.Walked.TheVariants.{To as Reached, Refused as Denied}
 
 -- the items are a place of 128 elements at the most
 pub record Short (ops args : List ℕ) : Type 0 where
@@ -41,12 +37,12 @@ abbrev pub walked_from : List ℕ → List ℕ → ℕ → Place
 walked_from ops args i = route ops args i (extent ops args - i)
 
 -- what types lead to along n elements
-abbrev pub led : ℕ → Opened → Led
-led n (Came f) = Onto (record { walked = n; fresh = f })
-led n (Barred r) = Halted r
+abbrev pub led : ℕ → Result Fresh Refusal → Result Onward Refusal
+led n (Ok f) = Ok (record { walked = n; fresh = f })
+led n (Err r) = Err r
 
 -- how far types lead from item i on, from a folded node of type t
-abbrev pub onward : List ℕ → List ℕ → List ℕ → ℕ → ℕ → Led
+abbrev pub onward : List ℕ → List ℕ → List ℕ → ℕ → ℕ → Result Onward Refusal
 onward Γ ops args i t = led (extent ops args) (sprout Γ (folded t 0) (walked_from ops args i))
 
 module _ (Γ fs ws ops args : List ℕ) where
@@ -66,12 +62,12 @@ module _ (Γ fs ws ops args : List ℕ) where
     pub folded : th.at < e → midway.tree ≡ leaf th.typ
 
   -- how far open nodes lead from x, at i
-  abbrev pub Passes : ℕ → Tree → Passed → Type 0
-  Passes i x (To th) = Passing (extent ops args) i x th
-  Passes i x (Refused r) = (act : Tree → Answer Tree) → walk Γ act (rest ops args 1) x ≡ refused r
+  abbrev pub Passes : ℕ → Tree → Result Through Refusal → Type 0
+  Passes i x (Ok th) = Passing (extent ops args) i x th
+  Passes i x (Err r) = (act : Tree → Answer Tree) → walk Γ act (rest ops args 1) x ≡ refused (number r)
 
   -- from the tree at i, of type t
-  abbrev pub PassesAt : ℕ → ℕ → Passed → Type 0
+  abbrev pub PassesAt : ℕ → ℕ → Result Through Refusal → Type 0
   PassesAt i t r = (x : Tree) → Coded Γ fs ws i t x → Passes i x r
 
   -- where the walk of p from x, at i, ends
@@ -81,19 +77,14 @@ module _ (Γ fs ws ops args : List ℕ) where
     pub far : w.walked ≡ suc (length (walked p))
     pub plain : no_index (route ops args w.passed (w.walked - w.passed)) ≡ true
     pub last : stops (rest ops args w.walked) ≡ true
-    pub fresh : sprout Γ (folded w.typ 0) (route ops args w.passed (w.walked - w.passed)) ≡ Came w.fresh
+    pub fresh : sprout Γ (folded w.typ 0) (route ops args w.passed (w.walked - w.passed)) ≡ Ok w.fresh
     pub array : (z : Tree) → type z ≡ w.fresh.typ → (act : Tree → Answer Tree) → walk Γ act (rest ops args w.walked) z ≡ act z
 
   -- what the walk of p from x, at i, gives
-  abbrev pub Walks : ℕ → Place → Tree → Walked → Type 0
-  Walks i p x (Reached w) = Site i p x w
-  Walks i p x (Denied r) = (act : Tree → Answer Tree) → walk Γ act p x ≡ refused r
+  abbrev pub Walks : ℕ → Place → Tree → Result Walk Refusal → Type 0
+  Walks i p x (Ok w) = Site i p x w
+  Walks i p x (Err r) = (act : Tree → Answer Tree) → walk Γ act p x ≡ refused (number r)
 
   -- of the items' place, from the tree at i, of type t
-  abbrev pub WalksAt : ℕ → ℕ → Walked → Type 0
+  abbrev pub WalksAt : ℕ → ℕ → Result Walk Refusal → Type 0
   WalksAt i t r = (x : Tree) (q : Spot) → Coded Γ fs ws i t x → spot_of ops args ≡ some q → Walks i q.place x r
-
--- the refusal of a walk that has one
-abbrev pub refusal_of : Walked → ℕ
-refusal_of (Reached w) = 0
-refusal_of (Denied r) = r

@@ -1,6 +1,6 @@
 -- What a step along an open node finds, and how far open nodes lead. Items say the elements of a place (`route`); the item
 -- of an unfold, which no place has, is read as `index`.
-use Rattle.std.specs.Prelude.{◌≡◌, true, List, [], ◌∷◌, ℕ, zero, suc, ◌+◌, ◌<◌, length}
+use Rattle.std.specs.Prelude.{◌≡◌, true, List, [], ◌∷◌, ℕ, zero, suc, ◌+◌, ◌<◌, length, Result, Ok, Err}
 use Rattle.model.specs.Words.{word}
 use Rattle.model.specs.Answer.{Answer, refused, done, ◌>>=◌}
 use Rattle.model.specs.Types.{ntypes}
@@ -10,9 +10,10 @@ use Rattle.model.specs.Place.{Elem, deref, field, downcast, index, Place}
 use Rattle.model.specs.Walk.{enter, opening, inside, walk, next, reached, changed, passed}
 use Rattle.model.specs.Block.{elem_of}
 use Rattle.records.specs.Here.{Coded}
+use Rattle.refusal.specs.Refusal.{number}
+use Rattle.refusal.specs.declared.Refusal.{Refusal}
 use Rattle.walk.specs.Frame.{Frame}
-use Rattle.walk.specs.declared.step.Step.{Step}
-use Rattle.walk.specs.declared.step.Step.TheVariants.{To, Refused}
+use Rattle.walk.specs.declared.step.Node.{Node}
 
 -- the elements that n items say, from item i on
 unfoldable pub route : List ℕ → List ℕ → ℕ → ℕ → Place
@@ -39,12 +40,12 @@ pub record Stepped (Γ fs ws : List ℕ) (i : ℕ) (e : Elem) (x : Tree) (n u : 
   pub was_open : unfolded x ≡ true
 
 -- what a step along an open tree gives
-abbrev pub Steps : (Γ fs ws : List ℕ) (i : ℕ) (e : Elem) (x : Tree) → Step → Type 0
-Steps Γ fs ws i e x (To n u) = Stepped Γ fs ws i e x n u
-Steps Γ fs ws i e x (Refused r) = (act : Tree → Answer Tree) → acts Γ e x >>= inside e act ≡ refused r
+abbrev pub Steps : (Γ fs ws : List ℕ) (i : ℕ) (e : Elem) (x : Tree) → Result Node Refusal → Type 0
+Steps Γ fs ws i e x (Ok n) = Stepped Γ fs ws i e x n.node n.typ
+Steps Γ fs ws i e x (Err r) = (act : Tree → Answer Tree) → acts Γ e x >>= inside e act ≡ refused (number r)
 
 -- along the tree at i, of type t
-abbrev pub StepsAt : (Γ fs ws : List ℕ) (i t : ℕ) (e : Elem) → Step → Type 0
+abbrev pub StepsAt : (Γ fs ws : List ℕ) (i t : ℕ) (e : Elem) → Result Node Refusal → Type 0
 StepsAt Γ fs ws i t e r = (x : Tree) → Coded Γ fs ws i t x → Steps Γ fs ws i e x r
 
 -- the walk of p from x goes through open nodes, and on as that of q from y

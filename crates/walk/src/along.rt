@@ -1,15 +1,17 @@
-// The walk: through open nodes up to the first folded one that must open, then by types alone. So 5, 6 and 7 come before
-// 9, and 9 is known before anything is written.
+// The walk: through open nodes up to the first folded one that must open, then by types alone. So WrongStep, OtherVariant
+// and BareVariant come before StateFull, and StateFull is known before anything is written.
 ghost use Rattle.std.specs.Prelude.{◌≡◌, ◌<◌};
 ghost use Rattle.model.specs.Types.{ntypes};
 ghost use Rattle.base.specs.Ranges.{Range};
 ghost use Rattle.records.specs.Here.{Here};
 ghost use Rattle.type_record.specs.Sizes.{Ready};
-ghost use Rattle.walk.specs.Site.{Short, extent, onward, PassesAt, WalksAt, refusal_of};
+ghost use Rattle.walk.specs.Site.{Short, extent, onward, PassesAt, WalksAt};
 
-use crate::step::{Fresh, Opened, Step, step_folded, step_open};
+use crate::step::{Fresh, Node, folded, step_folded, step_open};
 use mir::items::INDEX;
-use type_record::record::kind_of;
+use refusal::Refusal;
+use type_record::kinds::Kind;
+use type_record::record::kind_at;
 
 // What a walk has found: the elements walked, counted with the root, and those passed before the step that first changed the
 // tree (as many if none did); the node where the open nodes end, and its type; what the walk has opened from there.
@@ -22,37 +24,19 @@ pub struct Walk {
     pub fresh: Fresh,
 }
 
-#[derive(Drop)]
-pub enum Walked {
-    To(Walk),
-    Refused(u32),
-}
-
 // How far the open nodes lead: the elements passed, counted with the root, and the node and its type there.
-#[derive(Drop)]
+#[derive(Clone, Copy)]
 struct Through {
     at: usize,
     node: usize,
     typ: usize,
 }
 
-#[derive(Drop)]
-enum Passed {
-    To(Through),
-    Refused(u32),
-}
-
 // How far types lead from there: the elements walked, counted with the root, and the node there.
-#[derive(Drop)]
+#[derive(Clone, Copy)]
 struct Onward {
     walked: usize,
     fresh: Fresh,
-}
-
-#[derive(Drop)]
-enum Led {
-    To(Onward),
-    Refused(u32),
 }
 
 // Through open nodes, from the tree at node: up to the end of the place, an index, or a folded node.
@@ -65,44 +49,30 @@ fn pass_open<'a>(
     args: &[u32],
     node: usize,
     typ: usize,
-) -> Passed
+) -> Result<Through, Refusal>
     requires ready { Ready types.now offs.now }
     requires typ_bound { typ < ntypes types.now }
     requires here { Here types.now forms.now whats.now node typ }
     requires short { Short ops.now args.now }
     ensures { PassesAt types.now forms.now whats.now ops.now args.now node typ result }
 {
+    let mut here = Node { node, typ };
     let n = ops.len();
-    let mut at = 1;
-    let mut i = node;
-    let mut t = typ;
-    let passed = 'walk: loop {
-        if n <= at {
-            break 'walk at;
-        }
+    for at in 1..n {
         let op = ops[at];
-        if op == INDEX {
-            break 'walk at;
+        if op == INDEX || forms[here.node] == 0 {
+            return Ok(Through {
+                at,
+                node: here.node,
+                typ: here.typ,
+            });
         }
-        if forms[i] == 0 {
-            break 'walk at;
-        }
-        let s = step_open(types, offs, forms, whats, i, t, op, args[at]);
-        match s {
-            Step::To { node: m, typ: u } => {
-                i = m;
-                t = u;
-            }
-            Step::Refused(r) => {
-                return Passed::Refused(r);
-            }
-        }
-        at += 1;
-    };
-    Passed::To(Through {
-        at: passed,
-        node: i,
-        typ: t,
+        here = step_open(types, offs, forms, whats, here.node, here.typ, op, args[at])?;
+    }
+    Ok(Through {
+        at: n,
+        node: here.node,
+        typ: here.typ,
     })
 }
 
@@ -115,41 +85,23 @@ fn pass_folded(
     args: &[u32],
     from: usize,
     typ: usize,
-) -> Led
+) -> Result<Onward, Refusal>
     requires ready { Ready types.now offs.now }
     requires typ_bound { typ < ntypes types.now }
     requires short { Short ops.now args.now }
     requires range { Range 1 from (extent ops.now args.now) }
     ensures { result ≡ onward types.now ops.now args.now from typ }
 {
+    let mut fresh = folded(typ, 0);
     let n = ops.len();
-    let mut f = Fresh {
-        typ,
-        opened: false,
-        what: 0,
-        added: 0,
-    };
-    let mut at = from;
-    let walked = 'walk: loop {
-        if n <= at {
-            break 'walk at;
-        }
+    for at in from..n {
         let op = ops[at];
         if op == INDEX {
-            break 'walk at;
+            return Ok(Onward { walked: at, fresh });
         }
-        let s = step_folded(types, offs, f, op, args[at]);
-        match s {
-            Opened::To(g) => {
-                f = g;
-            }
-            Opened::Refused(r) => {
-                return Led::Refused(r);
-            }
-        }
-        at += 1;
-    };
-    Led::To(Onward { walked, fresh: f })
+        fresh = step_folded(types, offs, fresh, op, args[at])?;
+    }
+    Ok(Onward { walked: n, fresh })
 }
 
 // From the node of a local, of type typ, along the place. Where it stops at an index the type must be an array.
@@ -162,48 +114,24 @@ pub fn walk_along<'a>(
     args: &[u32],
     node: usize,
     typ: usize,
-) -> Walked
+) -> Result<Walk, Refusal>
     requires ready { Ready types.now offs.now }
     requires typ_bound { typ < ntypes types.now }
     requires here { Here types.now forms.now whats.now node typ }
     requires short { Short ops.now args.now }
     ensures { WalksAt types.now forms.now whats.now ops.now args.now node typ result }
 {
-    let p = pass_open(types, offs, forms, whats, ops, args, node, typ);
-    match p {
-        Passed::Refused(r) => Walked::Refused(r),
-        Passed::To(th) => {
-            let at = th.at;
-            let t = th.typ;
-            let o = pass_folded(types, offs, ops, args, at, t);
-            match o {
-                Led::Refused(r) => Walked::Refused(r),
-                Led::To(g) => {
-                    let f = g.fresh;
-                    if g.walked < ops.len() {
-                        if kind_of(types, f.typ) != 4 {
-                            return Walked::Refused(5);
-                        }
-                    }
-                    Walked::To(Walk {
-                        walked: g.walked,
-                        passed: at,
-                        node: th.node,
-                        typ: t,
-                        fresh: f,
-                    })
-                }
-            }
-        }
+    let th = pass_open(types, offs, forms, whats, ops, args, node, typ)?;
+    let on = pass_folded(types, offs, ops, args, th.at, th.typ)?;
+    let fresh = on.fresh;
+    if on.walked < ops.len() && kind_at(types, fresh.typ) != Kind::Array {
+        return Err(Refusal::WrongStep);
     }
-}
-
-// The refusal of a walk that has one.
-pub fn refusal(w: Walked) -> u32
-    ensures { result ≡ refusal_of w }
-{
-    match w {
-        Walked::To(_) => 0,
-        Walked::Refused(r) => r,
-    }
+    Ok(Walk {
+        walked: on.walked,
+        passed: th.at,
+        node: th.node,
+        typ: th.typ,
+        fresh,
+    })
 }

@@ -5,18 +5,16 @@ ghost use Rattle.model.specs.Place.{no_index};
 ghost use Rattle.model.specs.Block.{elem_of};
 ghost use Rattle.base.specs.Ranges.{BothHave};
 ghost use Rattle.type_record.specs.Sizes.{Sized, Ready};
-ghost use Rattle.state.specs.Value.{state_in};
 ghost use Rattle.walk.specs.Way.{route};
 ghost use Rattle.walk.specs.Fresh.{distance, variant};
 ghost use Rattle.walk.specs.Applied.{Marks, Stretch, Room, Pens, Opens, Carried, Folds, Folded};
 
 use crate::along::Walk;
-use crate::step::{Fresh, Opened, step_folded};
+use crate::step::{Fresh, More, folded, step_folded};
 use mir::items::{DEREF, DOWNCAST, FIELD};
 use state::edit::{close_up, make_room};
-use state::nodes::node_end;
-use type_record::kinds::form_of;
-use type_record::record::{kind_of, wide};
+use state::nodes::{State, node_end};
+use type_record::record::kind_at;
 
 // How many nodes stand between a node that a step opens and the node that it leads to.
 fn distance(op: u32, arg: u32) -> usize
@@ -24,7 +22,7 @@ fn distance(op: u32, arg: u32) -> usize
 {
     match op {
         DEREF => 1,
-        FIELD => 1 + wide(arg),
+        FIELD => 1 + arg as usize,
         _ => 0,
     }
 }
@@ -34,11 +32,7 @@ fn variant(op: u32, arg: u32) -> u16
     requires { variant (elem_of op arg) < 65536 }
     ensures { result ≡ variant (elem_of op arg) }
 {
-    if op == DOWNCAST {
-        (arg % 65536) as u16
-    } else {
-        0
-    }
+    if op == DOWNCAST { arg as u16 } else { 0 }
 }
 
 // Writes the node that a step opens, at i; a node that is open stays.
@@ -57,16 +51,14 @@ fn write_open(
     requires both_have { BothHave i forms.old whats.old }
     ensures { Marks types.now f (elem_of op arg) i forms.old whats.old forms.new whats.new }
 {
-    if f.opened {
-        return;
+    if !f.opened {
+        forms[i] = kind_at(types, f.typ).form();
+        whats[i] = variant(op, arg);
     }
-    let t = f.typ;
-    forms[i] = form_of(kind_of(types, t));
-    whats[i] = variant(op, arg);
 }
 
 // Where the writing has come to.
-#[derive(Drop)]
+#[derive(Clone, Copy)]
 struct Pen {
     at: usize,
     fresh: Fresh,
@@ -92,83 +84,73 @@ fn write_path(
     requires room { Room types.now (route ops.now args.now from (end - from)) typ i forms.old whats.old }
     ensures { Pens types.now (route ops.now args.now from (end - from)) typ i forms.old whats.old forms.new whats.new result }
 {
-    let mut f = Fresh {
-        typ,
-        opened: false,
-        what: 0,
-        added: 0,
-    };
+    let mut fresh = folded(typ, 0);
     let mut p = i;
-    let mut at = from;
-    while at < end {
+    for at in from..end {
         let op = ops[at];
         let arg = args[at];
-        write_open(types, f, op, arg, p, forms, whats);
+        write_open(types, fresh, op, arg, p, forms, whats);
         p += distance(op, arg);
-        let s = step_folded(types, offs, f, op, arg);
-        match s {
-            Opened::To(g) => {
-                f = g;
-            }
-            Opened::Refused(_) => {
-                return Pen { at: p, fresh: f };
-            }
-        }
-        at += 1;
+        fresh = step_folded(types, offs, fresh, op, arg).unwrap();
     }
-    Pen { at: p, fresh: f }
+    Pen { at: p, fresh }
 }
 
-// A walk's nodes are opened, and then one more, if last is not 0. w has the walk with the last step. The nodes there are then.
+// A walk's nodes are opened, and then one more, if there is one step more. w has the walk with that step.
 pub fn open_nodes(
     types: &[u32],
     offs: &[u32],
-    forms: &mut [u16],
-    whats: &mut [u16],
-    nodes: usize,
+    s: &mut State,
     w: Walk,
     ops: &[u32],
     args: &[u32],
-    last: u32,
-    last_arg: u32,
-) -> usize
+    more: Option<More>,
+)
     requires ready { Ready types.now offs.now }
-    requires opens { Opens types.now ops.now args.now (state_in forms.old whats.old nodes) w last last_arg }
-    ensures { Carried types.now ops.now args.now (state_in forms.old whats.old nodes) w last last_arg (state_in forms.new whats.new result) }
+    requires opens { Opens types.now ops.now args.now s.old w more }
+    ensures { Carried types.now ops.now args.now s.old w more s.new }
 {
     let i = w.node;
-    let f = w.fresh;
-    let gap = 1 + f.added;
-    make_room(forms, nodes, i, gap);
-    make_room(whats, nodes, i, gap);
+    let n = s.nodes;
+    let gap = 1 + w.fresh.added;
+    make_room(&mut s.forms, n, i, gap);
+    make_room(&mut s.whats, n, i, gap);
     let p = write_path(
-        types, offs, ops, args, w.passed, w.walked, i, w.typ, forms, whats,
+        types,
+        offs,
+        ops,
+        args,
+        w.passed,
+        w.walked,
+        i,
+        w.typ,
+        &mut s.forms,
+        &mut s.whats,
     );
-    if last != 0 {
-        let at = p.at;
-        let fresh = p.fresh;
-        write_open(types, fresh, last, last_arg, at, forms, whats);
+    if let Some(m) = more {
+        write_open(
+            types,
+            p.fresh,
+            m.op,
+            m.arg,
+            p.at,
+            &mut s.forms,
+            &mut s.whats,
+        );
     }
-    nodes + f.added
+    s.nodes += w.fresh.added;
 }
 
-// The node at i, of type t, is folded. The nodes there are then.
-pub fn fold_at(
-    types: &[u32],
-    offs: &[u32],
-    forms: &mut [u16],
-    whats: &mut [u16],
-    nodes: usize,
-    i: usize,
-    t: usize,
-) -> usize
+// The node at i, of type t, is folded.
+pub fn fold_at(types: &[u32], offs: &[u32], s: &mut State, i: usize, t: usize)
     requires ready { Ready types.now offs.now }
     requires t_bound { t < ntypes types.now }
-    requires folds { Folds types.now (state_in forms.old whats.old nodes) i t }
-    ensures { Folded types.now (state_in forms.old whats.old nodes) i t (state_in forms.new whats.new result) }
+    requires folds { Folds types.now s.old i t }
+    ensures { Folded types.now s.old i t s.new }
 {
-    let e = node_end(types, offs, forms, whats, i, t);
-    close_up(forms, nodes, i, e);
-    close_up(whats, nodes, i, e);
-    nodes - (e - i) + 1
+    let n = s.nodes;
+    let e = node_end(types, offs, &s.forms, &s.whats, i, t);
+    close_up(&mut s.forms, n, i, e);
+    close_up(&mut s.whats, n, i, e);
+    s.nodes -= e - i - 1;
 }

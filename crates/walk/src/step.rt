@@ -1,5 +1,5 @@
 // One step of the walk: from an open node, and from a folded one, by types alone.
-ghost use Rattle.std.specs.Prelude.{◌≡◌, true, ◌<◌, length, get_or};
+ghost use Rattle.std.specs.Prelude.{◌≡◌, true, ◌<◌, length, get_or, Ok};
 ghost use Rattle.model.specs.Types.{ntypes, kids};
 ghost use Rattle.model.specs.Place.{index};
 ghost use Rattle.model.specs.Block.{elem_of};
@@ -8,21 +8,28 @@ ghost use Rattle.type_record.specs.Sizes.{Ready, VariantOf};
 ghost use Rattle.state.specs.Found.{OpenAt};
 ghost use Rattle.walk.specs.Way.{StepsAt};
 ghost use Rattle.walk.specs.Fresh.{folded, Bud, grows_open, grows_folded, grows};
-ghost use Rattle.walk.specs.declared.step.Opened.TheVariants.{To};
 
 use mir::items::{DEREF, DOWNCAST, FIELD};
-use state::nodes::{fields_end, wide16};
-use type_record::kinds::{fielded, pointer, shut};
-use type_record::record::{casts, first_of, kid_count, kid_type, kind_of, owner_of, wide};
+use refusal::Refusal;
+use state::nodes::fields_end;
+use type_record::kinds::Kind;
+use type_record::record::{casts, first_of, kid_count, kid_type, kind_at, owner_of};
 
 // What an unfold does at the node reached: the code of a step that no place has.
 pub const OPEN: u32 = 16;
 
-// Where a step leads.
-#[derive(Drop)]
-pub enum Step {
-    To { node: usize, typ: usize },
-    Refused(u32),
+// One step more at the node reached, as an item.
+#[derive(Clone, Copy)]
+pub struct More {
+    pub op: u32,
+    pub arg: u32,
+}
+
+// A node of a state, and its type.
+#[derive(Clone, Copy)]
+pub struct Node {
+    pub node: usize,
+    pub typ: usize,
 }
 
 // From an open node.
@@ -35,53 +42,48 @@ pub fn step_open<'a>(
     typ: usize,
     op: u32,
     arg: u32,
-) -> Step
+) -> Result<Node, Refusal>
     requires ready { Ready types.now offs.now }
     requires typ_bound { typ < ntypes types.now }
     requires here { Here types.now forms.now whats.now node typ }
     requires open_at { OpenAt forms.now node }
     ensures { StepsAt types.now forms.now whats.now node typ (elem_of op arg) result }
 {
-    let k = kind_of(types, typ);
-    let what = wide16(whats[node]);
+    let k = kind_at(types, typ);
+    let what = usize::from(whats[node]);
     match op {
         DEREF => {
-            if pointer(k) {
-                Step::To {
-                    node: node + 1,
-                    typ: kid_type(types, offs, typ, 0, 0),
-                }
-            } else {
-                Step::Refused(5)
+            if !k.pointer() {
+                return Err(Refusal::WrongStep);
             }
+            Ok(Node {
+                node: node + 1,
+                typ: kid_type(types, offs, typ, 0, 0),
+            })
         }
         FIELD => {
-            let f = wide(arg);
-            if pointer(k) {
-                return Step::Refused(5);
-            }
-            if kid_count(types, offs, typ, what) <= f {
-                return Step::Refused(5);
+            let f = arg as usize;
+            if k.pointer() || kid_count(types, offs, typ, what) <= f {
+                return Err(Refusal::WrongStep);
             }
             let u = owner_of(types, offs, typ, what);
             let j = first_of(types, typ);
-            let to = fields_end(types, offs, forms, whats, node + 1, u, j, f);
-            Step::To {
-                node: to,
+            Ok(Node {
+                node: fields_end(types, offs, forms, whats, node + 1, u, j, f),
                 typ: kid_type(types, offs, typ, what, f),
-            }
+            })
         }
         DOWNCAST => {
-            let v = wide(arg);
+            let v = arg as usize;
             if !casts(types, typ, v) {
-                return Step::Refused(5);
+                return Err(Refusal::WrongStep);
             }
             if v != what {
-                return Step::Refused(6);
+                return Err(Refusal::OtherVariant);
             }
-            Step::To { node, typ }
+            Ok(Node { node, typ })
         }
-        _ => Step::To { node, typ },
+        _ => Ok(Node { node, typ }),
     }
 }
 
@@ -95,30 +97,20 @@ pub struct Fresh {
     pub added: usize,
 }
 
-#[derive(Drop)]
-pub enum Opened {
-    To(Fresh),
-    Refused(u32),
-}
-
-// The child i of a node opened at variant v.
-fn into_child(types: &[u32], offs: &[u32], typ: usize, v: usize, i: usize, added: usize) -> Opened
-    requires ready { Ready types.now offs.now }
-    requires typ_bound { typ < ntypes types.now }
-    requires variant_of { VariantOf types.now typ v }
-    requires i_in_bounds { i < length (kids types.now typ v) }
-    ensures { result ≡ To (folded (get_or (kids types.now typ v) i 0) added) }
+// A folded node of type typ, behind which `added` nodes were added.
+pub fn folded(typ: usize, added: usize) -> Fresh
+    ensures { result ≡ folded typ added }
 {
-    Opened::To(Fresh {
-        typ: kid_type(types, offs, typ, v, i),
+    Fresh {
+        typ,
         opened: false,
         what: 0,
         added,
-    })
+    }
 }
 
 // From a node that the walk has just opened.
-fn step_cast(types: &[u32], offs: &[u32], at: Fresh, op: u32, arg: u32) -> Opened
+fn step_cast(types: &[u32], offs: &[u32], at: Fresh, op: u32, arg: u32) -> Result<Fresh, Refusal>
     requires ready { Ready types.now offs.now }
     requires bud { Bud types.now at }
     requires opened_value { at.opened ≡ true }
@@ -127,43 +119,43 @@ fn step_cast(types: &[u32], offs: &[u32], at: Fresh, op: u32, arg: u32) -> Opene
     let typ = at.typ;
     let v = at.what;
     match op {
-        DEREF => Opened::Refused(5),
+        DEREF => Err(Refusal::WrongStep),
         FIELD => {
-            let f = wide(arg);
+            let f = arg as usize;
             if kid_count(types, offs, typ, v) <= f {
-                return Opened::Refused(5);
+                return Err(Refusal::WrongStep);
             }
-            into_child(types, offs, typ, v, f, at.added)
+            Ok(folded(kid_type(types, offs, typ, v, f), at.added))
         }
         DOWNCAST => {
-            let w = wide(arg);
+            let w = arg as usize;
             if !casts(types, typ, w) {
-                return Opened::Refused(5);
+                return Err(Refusal::WrongStep);
             }
             if w != v {
-                return Opened::Refused(6);
+                return Err(Refusal::OtherVariant);
             }
-            Opened::To(at)
+            Ok(at)
         }
-        _ => Opened::To(at),
+        _ => Ok(at),
     }
 }
 
 // An unfold at a folded node.
-fn step_unfold(types: &[u32], offs: &[u32], typ: usize, added: usize) -> Opened
+fn step_unfold(types: &[u32], offs: &[u32], typ: usize, added: usize) -> Result<Fresh, Refusal>
     requires ready { Ready types.now offs.now }
     requires typ_bound { typ < ntypes types.now }
     requires added_bound { added < 4294967296 }
     ensures { result ≡ grows_folded types.now typ added index }
 {
-    let k = kind_of(types, typ);
-    if shut(k) {
-        return Opened::Refused(5);
+    let k = kind_at(types, typ);
+    if k.shut() {
+        return Err(Refusal::WrongStep);
     }
-    if k == 7 {
-        return Opened::Refused(7);
+    if k == Kind::Enum {
+        return Err(Refusal::BareVariant);
     }
-    Opened::To(Fresh {
+    Ok(Fresh {
         typ,
         opened: true,
         what: 0,
@@ -172,7 +164,13 @@ fn step_unfold(types: &[u32], offs: &[u32], typ: usize, added: usize) -> Opened
 }
 
 // From a folded node.
-pub fn step_folded(types: &[u32], offs: &[u32], at: Fresh, op: u32, arg: u32) -> Opened
+pub fn step_folded(
+    types: &[u32],
+    offs: &[u32],
+    at: Fresh,
+    op: u32,
+    arg: u32,
+) -> Result<Fresh, Refusal>
     requires ready { Ready types.now offs.now }
     requires bud { Bud types.now at }
     requires added_bound { at.added < 4294967296 }
@@ -182,32 +180,32 @@ pub fn step_folded(types: &[u32], offs: &[u32], at: Fresh, op: u32, arg: u32) ->
         return step_cast(types, offs, at, op, arg);
     }
     let typ = at.typ;
-    let k = kind_of(types, typ);
+    let k = kind_at(types, typ);
     match op {
         DEREF => {
-            if !pointer(k) {
-                return Opened::Refused(5);
+            if !k.pointer() {
+                return Err(Refusal::WrongStep);
             }
-            into_child(types, offs, typ, 0, 0, at.added + 1)
+            Ok(folded(kid_type(types, offs, typ, 0, 0), at.added + 1))
         }
         FIELD => {
-            let f = wide(arg);
-            if !fielded(k) {
-                return Opened::Refused(5);
+            let f = arg as usize;
+            if !k.fielded() {
+                return Err(Refusal::WrongStep);
             }
             let n = kid_count(types, offs, typ, 0);
             if n <= f {
-                return Opened::Refused(5);
+                return Err(Refusal::WrongStep);
             }
-            into_child(types, offs, typ, 0, f, at.added + n)
+            Ok(folded(kid_type(types, offs, typ, 0, f), at.added + n))
         }
         DOWNCAST => {
-            let v = wide(arg);
+            let v = arg as usize;
             if !casts(types, typ, v) {
-                return Opened::Refused(5);
+                return Err(Refusal::WrongStep);
             }
             let n = kid_count(types, offs, typ, v);
-            Opened::To(Fresh {
+            Ok(Fresh {
                 typ,
                 opened: true,
                 what: v,

@@ -2,6 +2,7 @@
 use mathlib.Core.Path.{◌≡◌, refl, sym, ap, ap₂, ◌∙◌}
 use mathlib.Core.List.{List, [], ◌∷◌, ◌++◌, append_assoc}
 use Prim.Native.Nat.{ℕ, suc, ◌+◌, ◌-◌, ◌*◌, ◌≤◌}
+use Rattle.std.specs.Prelude.{Result, Ok, Err}
 use native.Mathlib.Omega.{arith}
 use lib.ListN.{length, take, drop, replicate, length-append, length-replicate, length-drop, take-append-drop}
 use lib.Seq.{take_at, drop_at}
@@ -11,19 +12,17 @@ use Rattle.model.specs.Place.{At}
 use Rattle.model.specs.Passes.{Found}
 use Rattle.model.specs.Block.{entry_point}
 use Rattle.model.specs.Record.{record_length, statement_record, lent}
-use Rattle.model.specs.Whole.{Result, accepted, denied, result, found, whole}
+use Rattle.model.specs.Whole.{Result as Called, accepted, denied, result, found, whole}
 use Rattle.model.specs.Crate.{records, spare, stopped_at, calls, from_first}
 use Rattle.base.specs.Tests.{clash}
-use Rattle.base.specs.Answer.{split_answer}
 use Rattle.records.specs.Recorded.{length_record}
 use Rattle.demand.specs.Whole.{whole_leaves}
 use Rattle.demand.specs.Crates.{front_record}
 use Rattle.mir.specs.Framed.{Framed}
 use Rattle.fold_unfold.specs.Answers.{answer_of}
-use Rattle.fold_unfold.specs.declared.Ghosts.{Ghosts}
-use Rattle.fold_unfold.specs.declared.Ghosts.TheVariants.{Done, Refused}
+use Rattle.refusal.specs.declared.Refusal.{Refusal}
+use Rattle.statements.specs.declared.Counts.{Counts}
 use Rattle.whole_crate.specs.Called.{BlankFrom, Alone, Leaves}
-use Rattle.whole_crate.specs.declared.Crate.TheVariants.{Done as All, Refused as Stopped}
 
 -- THE RECORDS
 
@@ -60,7 +59,6 @@ whole_zero Γ fn nforms nwhats nout e = result_zero Γ fn nforms nwhats nout (fo
 module _ (Γ words : List ℕ) (nforms nwhats nout n : ℕ) where
   -- k functions are accepted; their statement records are the first `used` words; the others' begin at word `at`
   pub record Going (fs ws out : List ℕ) (at used k : ℕ) : Type 0 where
-    pub few : k ≤ n
     pub within : at ≤ length words
     pub same_forms : length fs ≡ nforms
     pub same_whats : length ws ≡ nwhats
@@ -75,7 +73,6 @@ module _ (Γ words : List ℕ) (nforms nwhats nout n : ℕ) where
       → length fs ≡ nforms → length ws ≡ nwhats → Going fs ws out 1 0 0
   unfolding from_first lent
   going_first fs ws out h zf zw zo lf lw = record {
-    few = omega arith;
     within = h;
     same_forms = lf;
     same_whats = lw;
@@ -96,7 +93,7 @@ module _ (Γ words : List ℕ) (nforms nwhats nout n : ℕ) where
       record { within = omega (arith, w, G.room); blank = z ∙ ap (λ (x : ℕ). replicate x 0) (sym y) }
 
   -- behind the last
-  pub going_last : {fs ws out : List ℕ} {at used k : ℕ} → Going fs ws out at used k → n ≤ k → Leaves (from_first Γ nforms nwhats nout (records n (drop 1 words))) fs ws out All
+  pub going_last : {fs ws out : List ℕ} {at used k : ℕ} → Going fs ws out at used k → n ≤ k → Leaves (from_first Γ nforms nwhats nout (records n (drop 1 words))) fs ws out (Ok tt)
   unfolding calls records
   going_last {k = k} G h =
       let z : n - k ≡ 0 = omega arith in
@@ -104,7 +101,7 @@ module _ (Γ words : List ℕ) (nforms nwhats nout n : ℕ) where
       record { answer = rw e refl; forms = rw e refl; whats = rw e refl; records_are = rw e G.stands }
 
   module _ {fs ws out : List ℕ} {at used k : ℕ} (G : Going fs ws out at used k) (m : ℕ) (z : n - k ≡ suc m) {end : ℕ} (F : Framed words at end)
-      {fs' ws' out' : List ℕ} {g : Ghosts} (A : Alone Γ (take (end - at) (drop at words)) fs ws out used fs' ws' out' g) (lf : length fs' ≡ length fs) (lw : length ws' ≡ length ws) where
+      {fs' ws' out' : List ℕ} {g : Result Counts Refusal} (A : Alone Γ (take (end - at) (drop at words)) fs ws out used fs' ws' out' g) (lf : length fs' ≡ length fs) (lw : length ws' ≡ length ws) where
     abbrev fn : List ℕ
     fn = take (end - at) (drop at words)
 
@@ -121,10 +118,10 @@ module _ (Γ words : List ℕ) (nforms nwhats nout n : ℕ) where
     next = G.goes ∙ ap (calls Γ nforms nwhats nout (suc k) G.front fs ws) (records_next words at end (n - k) m z F)
 
     -- model's call of it
-    abbrev R : Result
+    abbrev R : Called
     R = whole Γ fn nforms nwhats (nout - length G.front)
 
-    told : g ≡ answer_of R.answer
+    told : answer_of g ≡ R.answer
     told = rw (G.same_forms, G.same_whats, left) at A.whole.answer
 
     its_forms : fs' ≡ R.forms
@@ -137,49 +134,48 @@ module _ (Γ words : List ℕ) (nforms nwhats nout n : ℕ) where
     its_record = rw (G.same_forms, G.same_whats, left) at A.whole.record_is
 
     -- it is refused
-    pub going_stops : {r : ℕ} → g ≡ Refused r → {out'' : List ℕ} → out'' ≡ replicate nout 0
-        → Leaves (from_first Γ nforms nwhats nout (records n (drop 1 words))) fs' ws' out'' (Stopped r (k + 1))
+    pub going_stops : {k' : Refusal} → g ≡ Err k' → {out'' : List ℕ} → out'' ≡ replicate nout 0
+        → Leaves (from_first Γ nforms nwhats nout (records n (drop 1 words))) fs' ws' out'' (Err (record { refusal = k'; position = k + 1 }))
     unfolding calls stopped_at
-    going_stops {r} e zo = split_answer R.answer
-        (λ j q.
-        let y : j ≡ r = cc (told) in
+    going_stops {k'} e zo =
+        let q = sym told ∙ ap answer_of e in
         let (zf, zw) = whole_zero Γ fn nforms nwhats (nout - length G.front) q in
         let d = rw (q, calls) at next in
         let w : k + 1 ≡ suc k = omega arith in
-        record { answer = rw (d, y, w) refl; forms = rw d (its_forms ∙ zf); whats = rw d (its_whats ∙ zw); records_are = rw d zo })
-        (λ c q. clash (cc (told)))
+        record { answer = rw (d, w) refl; forms = rw d (its_forms ∙ zf); whats = rw d (its_whats ∙ zw); records_are = rw d zo }
 
     -- it is accepted
-    module _ {s e : ℕ} (d : g ≡ Done s e) where
+    module _ {h : Counts} (d : g ≡ Ok h) where
       -- with so many entries
-      counts : (c : ℕ × ℕ) → R.answer ≡ done c → c.1 ≡ e
-      counts c q = cc (told)
-
-      -- by what it leaves
-      accepts : {P : Type 0} → ((c : ℕ × ℕ) → R.answer ≡ done c → c.1 ≡ e → P) → P
-      accepts f = split_answer R.answer (λ j q. clash (cc (told))) (λ c q. f c q (counts c q))
+      accepts : R.answer ≡ done (h.statements, h.entries)
+      accepts = sym told ∙ ap answer_of d
 
       -- its record fits
-      pub going_room : used + (2 + 2 * e) ≤ nout
-      going_room = accepts (λ c q i.
-          let L = whole_leaves Γ fn nforms nwhats (nout - length G.front) q in
-          omega (arith, L.room, L.counted, length_record (entry_point fn) L.lines, G.long, G.room))
+      pub going_room : used + (2 + 2 * h.entries) ≤ nout
+      going_room =
+          let L = whole_leaves Γ fn nforms nwhats (nout - length G.front) accepts in
+          omega (arith, L.room, L.counted, length_record (entry_point fn) L.lines, G.long, G.room)
+
+      -- the functions that are left
+      left_by : {m' j : ℕ} (front : List ℕ) → m' ≡ m → j ≡ suc k
+          → from_first Γ nforms nwhats nout (records n (drop 1 words)) ≡ calls Γ nforms nwhats nout (suc (suc k)) front R.forms R.whats (records m (drop end words))
+          → from_first Γ nforms nwhats nout (records n (drop 1 words)) ≡ calls Γ nforms nwhats nout (suc j) front fs' ws' (records m' (drop end words))
+      left_by front y w e = rw (y, w, its_forms, its_whats) e
 
       -- and stands behind the others
-      pub going_on : Going fs' ws' out' end (used + (2 + 2 * e)) (k + 1)
+      pub going_on : Going fs' ws' out' end (used + (2 + 2 * h.entries)) (k + 1)
       unfolding calls lent
-      going_on = accepts (λ c q i.
-          let L = whole_leaves Γ fn nforms nwhats (nout - length G.front) q in
+      going_on =
+          let L = whole_leaves Γ fn nforms nwhats (nout - length G.front) accepts in
           let rec = statement_record (entry_point fn) L.lines in
-          let t : take (record_length c.1) R.out ≡ rec = front_record Γ fn nforms nwhats (nout - length G.front) L in
-          let long : length (G.front ++ rec) ≡ used + (2 + 2 * e) = length-append G.front rec ∙ omega (arith, L.counted, length_record (entry_point fn) L.lines, G.long) in
+          let t : take (record_length h.entries) R.out ≡ rec = front_record Γ fn nforms nwhats (nout - length G.front) L in
+          let long : length (G.front ++ rec) ≡ used + (2 + 2 * h.entries) = length-append G.front rec ∙ omega (arith, L.counted, length_record (entry_point fn) L.lines, G.long) in
           let kept : take used out' ≡ G.front = A.kept ∙ ap (take used) G.stands ∙ take_at G.front _ used G.long in
           let behind : drop used out' ≡ rec ++ replicate (nout - length G.front - length rec) 0 = its_record ∙ L.written in
           let zeros : nout - length G.front - length rec ≡ nout - length (G.front ++ rec) = omega (arith, length-append G.front rec) in
           let y : n - (k + 1) ≡ m = omega arith in
           let w : k + 1 ≡ suc k = omega arith in
           record {
-            few = omega arith;
             within = F.within;
             same_forms = lf ∙ G.same_forms;
             same_whats = lw ∙ G.same_whats;
@@ -188,5 +184,5 @@ module _ (Γ words : List ℕ) (nforms nwhats nout n : ℕ) where
             room = going_room;
             stands = sym (take-append-drop used out') ∙ ap₂ (λ (x w : List ℕ). x ++ w) kept behind ∙ sym (append_assoc G.front rec _)
                 ∙ ap (λ (x : ℕ). (G.front ++ rec) ++ replicate x 0) zeros;
-            goes = rw (y, w, its_forms, its_whats) (rw (q, calls, t) at next);
-          })
+            goes = left_by (G.front ++ rec) y w (rw (accepts, calls, t) at next);
+          }

@@ -6,7 +6,9 @@ use native.Mathlib.Omega.{arith}
 use lib.ListN.{length, take, drop, replicate, length-drop, drop_of_length-le}
 use lib.Seq.{length-take-le, take_all, take_at, drop_at}
 use Rattle.fold_unfold.specs.Answers.{Whole}
-use Rattle.fold_unfold.specs.declared.Ghosts.{Ghosts}
+use Rattle.std.specs.Prelude.{Result}
+use Rattle.refusal.specs.declared.Refusal.{Refusal}
+use Rattle.statements.specs.declared.Counts.{Counts}
 use Rattle.whole_crate.specs.Called.{BlankFrom, Alone}
 
 -- the words from word a on, as they are lent: zeros
@@ -30,7 +32,7 @@ module _ (l : List ℕ) (a : ℕ) (h : a ≤ length l) (back : List ℕ) where
   front = length-take-le a l (omega arith)
 
   -- the call of one function, in those words
-  pub call_alone : {Γ fn fs ws fs' ws' : List ℕ} {r : Ghosts} → Whole Γ fn fs ws (take (length l - a) (drop a l)) fs' ws' back r
+  pub call_alone : {Γ fn fs ws fs' ws' : List ℕ} {r : Result Counts Refusal} → Whole Γ fn fs ws (take (length l - a) (drop a l)) fs' ws' back r
       → Alone Γ fn fs ws l a fs' ws' returned r
   call_alone {Γ} {fn} {fs} {ws} {fs'} {ws'} {r} W = record {
     whole = subst (λ (x : List ℕ). Whole Γ fn fs ws (drop a l) fs' ws' x r) (sym (ap (drop a) none_left ∙ drop_at (take a l) back a front))

@@ -1,27 +1,27 @@
 // A whole crate in one call: the statements of up to 64 functions over one type record.
 #![tactic(auto)]
 
-ghost use Rattle.std.specs.Prelude.{◌≡◌, ◌-◌, ◌≤◌, length, take, drop};
-ghost use Rattle.moments.specs.Lent.{was, after};
+ghost use Rattle.std.specs.Prelude.{◌-◌, ◌≤◌, length, take, drop, OnOk};
 ghost use Rattle.model.specs.Words.{word};
 ghost use Rattle.model.specs.Crate.{records};
 ghost use Rattle.model.specs.Replay.{ReplayedEach};
 ghost use Rattle.type_record.specs.Sizes.{Ready};
 ghost use Rattle.fold_unfold.specs.Answers.{AllZero};
 ghost use Rattle.whole_crate.specs.Called.{Called, Goes, Numbered, Counted, Ended, Begun, BlankFrom, Alone};
-ghost use Rattle.whole_crate.specs.declared.Crate.TheVariants.{Done};
 
-use fold_unfold::{Ghosts, function_statements, wipe16};
+use fold_unfold::function_statements;
 use mir::split::record_end;
-use statements::wipe;
+use refusal::Refusal;
+use statements::Counts;
 use type_record::check_types::check_types;
 
 pub const MOST_FUNCTIONS: u32 = 64;
 
-#[derive(Drop)]
-pub enum Crate {
-    Done,
-    Refused { number: u32, position: u32 },
+// A refusal, and the position of the function that is refused, counted from 1; 0 for the crate itself.
+#[derive(Clone, Copy)]
+pub struct CrateRefusal {
+    pub refusal: Refusal,
+    pub position: u32,
 }
 
 // The end of the last of n records behind the count.
@@ -30,33 +30,28 @@ fn records_end(words: &[u32], n: u32) -> usize
     ensures { Ended words.now n result }
 {
     let mut at = 1;
-    let mut k = 0;
-    while k < n {
+    for _ in 0..n {
         at = record_end(words, at);
-        k += 1;
     }
     at
 }
 
-// Refusals at position 0, or 0: the count, the types, words after the last record. offs then has the offsets of the parts.
-fn begun(types: &[u32], words: &[u32], offs: &mut [u32]) -> u32
+// What is refused at position 0: the count, the types, words after the last record. offs then has the offsets of the parts.
+fn begun(types: &[u32], words: &[u32], offs: &mut [u32]) -> Result<(), Refusal>
     requires { 4096 ≤ length offs.old }
     ensures { Begun types.now words.now offs.new result }
 {
-    if words.len() == 0 {
-        return 2;
-    }
-    let n = words[0];
-    if MOST_FUNCTIONS < n {
-        return 2;
+    if words.len() == 0 || MOST_FUNCTIONS < words[0] {
+        return Err(Refusal::BadFunction);
     }
     if !check_types(types, offs) {
-        return 1;
+        return Err(Refusal::BadTypes);
     }
-    if records_end(words, n) < words.len() {
-        return 2;
+    let end = records_end(words, words[0]);
+    if end < words.len() {
+        return Err(Refusal::BadFunction);
     }
-    0
+    Ok(())
 }
 
 // The function whose record is the words from `at` to `end`, its statement record from word `used` of out on, where there are zeros.
@@ -70,15 +65,15 @@ fn one(
     whats: &mut [u16],
     out: &mut [u32],
     used: usize,
-) -> Ghosts
+) -> Result<Counts, Refusal>
     requires ready { Ready types.now offs.now }
     requires at_le_end { at ≤ end }
     requires end_in_bounds { end ≤ length words.now }
     requires blank_from { BlankFrom out.old used }
     ensures { Alone types.now (take (end - at) (drop at words.now)) forms.old whats.old out.old used forms.new whats.new out.new result }
 {
-    wipe16(forms);
-    wipe16(whats);
+    forms.fill(0);
+    whats.fill(0);
     let n = out.len();
     function_statements(
         types,
@@ -98,38 +93,29 @@ fn each(
     forms: &mut [u16],
     whats: &mut [u16],
     out: &mut [u32],
-) -> Crate
+) -> Result<(), CrateRefusal>
     requires ready { Ready types.now offs.now }
     requires counted { Counted words.now }
     requires all_zero { AllZero forms.old whats.old out.old }
     ensures { Goes types.now words.now forms.old whats.old out.old forms.new whats.new out.new result }
 {
-    let n = words[0];
     let mut at = 1;
     let mut used = 0;
-    let mut k = 0;
-    while k < n {
+    for k in 0..words[0] {
         let end = record_end(words, at);
-        let g = one(types, offs, words, at, end, forms, whats, out, used);
-        k += 1;
-        match g {
-            Ghosts::Refused(number) => {
-                wipe(out);
-                return Crate::Refused {
-                    number,
-                    position: k,
-                };
-            }
-            Ghosts::Done {
-                statements: _,
-                entries,
-            } => {
-                used += 2 + 2 * entries;
+        match one(types, offs, words, at, end, forms, whats, out, used) {
+            Ok(g) => used += 2 + 2 * g.entries,
+            Err(refusal) => {
+                out.fill(0);
+                return Err(CrateRefusal {
+                    refusal,
+                    position: k + 1,
+                });
             }
         }
         at = end;
     }
-    Crate::Done
+    Ok(())
 }
 
 // The statements of each function, their records one after another. words: the count, then the function records one after another. A
@@ -140,21 +126,20 @@ pub fn crate_statements(
     forms: &mut [u16],
     whats: &mut [u16],
     out: &mut [u32],
-) -> Crate
+) -> Result<(), CrateRefusal>
     ensures called { Called types.now words.now forms.old whats.old out.old forms.new whats.new out.new result }
-    ensures replayed { result ≡ Done → ReplayedEach types.now (records (word words.now 0) (drop 1 words.now)) out.new }
+    ensures replayed { OnOk result (ReplayedEach types.now (records (word words.now 0) (drop 1 words.now)) out.new) }
     ensures numbered { Numbered words.now result }
 {
     let mut offs = [0u32; 4096];
-    wipe16(forms);
-    wipe16(whats);
-    wipe(out);
-    let r = begun(types, words, &mut offs);
-    if r != 0 {
-        return Crate::Refused {
-            number: r,
+    forms.fill(0);
+    whats.fill(0);
+    out.fill(0);
+    match begun(types, words, &mut offs) {
+        Ok(()) => each(types, &offs, words, forms, whats, out),
+        Err(refusal) => Err(CrateRefusal {
+            refusal,
             position: 0,
-        };
+        }),
     }
-    each(types, &offs, words, forms, whats, out)
 }

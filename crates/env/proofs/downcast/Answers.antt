@@ -1,4 +1,6 @@
 -- `env::downcast` meets its contract: a test stops it, or it is done. Assumes nothing.
+use lib.ListN.{length}
+use Rattle.model.specs.Place.{used_ok}
 use Rattle.model.specs.Walk.{downcasting}
 use Rattle.model.specs.Calls.{call_downcast}
 use Rattle.calls.specs.Numbers.{downcast_refuses}
@@ -6,20 +8,19 @@ use Rattle.state.specs.Value.{value}
 use Rattle.env.proofs.Called.{tested_input, gives_stops, gives_goes}
 use Rattle.env.proofs.downcast.Goals as goal
 
-pub returns-then-r-ne0 : goal.returns-then-r-ne0
+pub downcast-answer-requires : goal.downcast-answer-requires
+downcast-answer-requires c = tested_input c.in-Ok.ensures
+
+pub returns-in-Ok : goal.returns-in-Ok
 unfolding call_downcast
-returns-then-r-ne0 c =
+returns-in-Ok c =
     let a = c.args in
-    let R = gives_stops c.check_use-r.ensures (λ q E. downcasting a.types.now q a.variant E) (downcast_refuses a.types.now a.locals.now (value a.s) a.ops.now a.args.now a.variant) c.if-r-ne0.true c.refused.ensures in
+    let R = gives_goes a.types.now a.locals.now a.s a.ops.now a.args.now (used_ok (length a.locals.now)) (λ q E. downcasting a.types.now q a.variant E) (downcast_refuses a.types.now a.locals.now (value a.s) a.ops.now a.args.now a.variant) c.in-Ok.ensures c.downcast-answer.ensures in
     record { gives = R.0; promised = R.1 }
 
-pub downcast-c-requires : goal.downcast-c-requires
-downcast-c-requires c =
-    tested_input c.check_use-r.ensures c.if-r-ne0.false
-
-pub returns : goal.returns
+pub returns-in-Err : goal.returns-in-Err
 unfolding call_downcast
-returns c =
+returns-in-Err c =
     let a = c.args in
-    let R = gives_goes c.check_use-r.ensures (λ q E. downcasting a.types.now q a.variant E) (downcast_refuses a.types.now a.locals.now (value a.s) a.ops.now a.args.now a.variant) c.if-r-ne0.false c.moved.ensures c.downcast-c.ensures in
+    let R = gives_stops a.types.now a.locals.now a.s a.ops.now a.args.now (used_ok (length a.locals.now)) (λ q E. downcasting a.types.now q a.variant E) (downcast_refuses a.types.now a.locals.now (value a.s) a.ops.now a.args.now a.variant) c.in-Err.ensures in
     record { gives = R.0; promised = R.1 }

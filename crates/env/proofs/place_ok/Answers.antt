@@ -1,19 +1,7 @@
 -- `env::place_ok` meets its contract: the items are no place, or the aim says which test. Assumes nothing.
 use Rattle.model.specs.Place.{unfold_ok}
-use Rattle.env.proofs.Testing.{place_none, place_spotted, place_told}
+use Rattle.env.proofs.Testing.{place_told}
 use Rattle.env.proofs.place_ok.Goals as goal
-
-pub returns-then-not-is_place : goal.returns-then-not-is_place
-returns-then-not-is_place c = place_none _ _ c.is_place.ensures c.if-not-is_place.true _
-
-pub used_ok-requires : goal.used_ok-requires
-used_ok-requires c = place_spotted _ _ c.is_place.ensures c.if-not-is_place.false
-
-pub fold_ok-requires : goal.fold_ok-requires
-fold_ok-requires c = place_spotted _ _ c.is_place.ensures c.if-not-is_place.false
-
-pub spot_ok-requires : goal.spot_ok-requires
-spot_ok-requires c = place_spotted _ _ c.is_place.ensures c.if-not-is_place.false
 
 pub returns-in-Uses : goal.returns-in-Uses
 returns-in-Uses c = place_told _ _ c.is_place.ensures c.if-not-is_place.false _ c.in-Uses.is c.used_ok.ensures

@@ -2,18 +2,17 @@
 use Rattle.env.proofs.Called.{tested_input, projection_stops, projection_goes}
 use Rattle.env.proofs.projection.Goals as goal
 
-pub returns-then-r-ne0 : goal.returns-then-r-ne0
-returns-then-r-ne0 c =
+pub projection-answer-requires : goal.projection-answer-requires
+projection-answer-requires c = tested_input c.in-Ok.ensures
+
+pub returns-in-Ok : goal.returns-in-Ok
+returns-in-Ok c =
     let a = c.args in
-    let R = projection_stops a.types.now a.locals.now a.s a.ops.now a.args.now c.check_use-r.ensures c.if-r-ne0.true in
+    let R = projection_goes a.types.now a.locals.now a.s a.ops.now a.args.now c.in-Ok.ensures c.projection-answer.ensures in
     record { records = R.0; promised = R.1 }
 
-pub projection-u-requires : goal.projection-u-requires
-projection-u-requires c =
-    tested_input c.check_use-r.ensures c.if-r-ne0.false
-
-pub returns : goal.returns
-returns c =
+pub returns-in-Err : goal.returns-in-Err
+returns-in-Err c =
     let a = c.args in
-    let R = projection_goes a.types.now a.locals.now a.s a.ops.now a.args.now c.check_use-r.ensures c.if-r-ne0.false c.projection-u.ensures in
+    let R = projection_stops a.types.now a.locals.now a.s a.ops.now a.args.now c.in-Err.ensures in
     record { records = R.0; promised = R.1 }

@@ -1,15 +1,9 @@
--- `exports::exports_statement_items` meets its contract: by what the call for lists of statements ensures. Assumes nothing.
-use Rattle.exports.proofs.Answered.{items_refused, items_given}
+-- `exports::exports_statement_items` meets its contract: by what the call for lists of statements ensures.
+use Rattle.model.specs.Promised.{statement_numbers}
+use Rattle.exports.proofs.Answered.{exported_items, code_one}
 use Rattle.exports.proofs.exports_statement_items.Goals as goal
 
-pub returns-in-Refused : goal.returns-in-Refused
-returns-in-Refused c =
-    let g = c.statement_items-g.ensures in
-    let p = items_refused g.gives c.in-Refused.is g.numbered in
-    record { exported_items = p.0; numbered = p.1 }
-
-pub returns-in-Done : goal.returns-in-Done
-returns-in-Done c =
-    let g = c.statement_items-g.ensures in
-    let p = items_given g.gives c.in-Done.is in
-    record { exported_items = p.0; numbered = p.1 }
+pub returns : goal.returns
+returns c =
+    let g = c.statement_items.ensures in
+    rw c.code.ensures (record { exported_items = exported_items g.gives; numbered = code_one statement_numbers c.statement_items.result g.numbered })

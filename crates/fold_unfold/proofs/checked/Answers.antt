@@ -3,6 +3,7 @@ use mathlib.Core.Path.{sym, ◌∙◌}
 use native.Mathlib.Omega.{arith}
 use Rattle.fold_unfold.proofs.Tested.{function_formed, few_joins, denied_function, denied_places, denied_forms, denied_whats, all_pass}
 use Rattle.fold_unfold.proofs.checked.Goals as goal
+use Rattle.fold_unfold.proofs.checked.Goals.{then-forms-k-via-then-forms-k, then-forms-k-via-else-forms-k+then-whats-k}
 
 pub check_function-requires : goal.check_function-requires
 check_function-requires c = c.requires.types_value
@@ -29,13 +30,13 @@ overflow_mul-k c =
 
 pub returns-then-forms-k : goal.returns-then-forms-k
 returns-then-forms-k c =
-    denied_forms c.requires.types_value (sym c.check_function.ensures ∙ c.if-not-check_function.false) (sym c.places_ok.ensures ∙ c.if-not-places_ok.false)
-    (omega (arith, c.if-forms-k.true, c.fill_join_points-k.ensures.count))
-
-pub returns-then-whats-k : goal.returns-then-whats-k
-returns-then-whats-k c =
-    denied_whats c.requires.types_value (sym c.check_function.ensures ∙ c.if-not-check_function.false) (sym c.places_ok.ensures ∙ c.if-not-places_ok.false)
-    (omega (arith, c.if-whats-k.true, c.fill_join_points-k.ensures.count))
+    let t = c.requires.types_value in
+    let f = sym c.check_function.ensures ∙ c.if-not-check_function.false in
+    let p = sym c.places_ok.ensures ∙ c.if-not-places_ok.false in
+    elim c.then-forms-k.branch [
+      | then-forms-k-via-then-forms-k w ↦ denied_forms t f p (omega (arith, c.fill_join_points-k.ensures.count))
+      | then-forms-k-via-else-forms-k+then-whats-k w ↦ denied_whats t f p (omega (arith, c.fill_join_points-k.ensures.count))
+    ]
 
 pub returns : goal.returns
 returns c =

@@ -1,34 +1,45 @@
 -- `fold_unfold::marked_statements` meets its contract: by the tests, the passes and the end of the record.
-use borrow.Author.Rules.{rules}
+use mathlib.Core.Path.{refl, sym, ◌∙◌}
+use Rattle.std.proofs.lemmas.Result.{err_from_is_err_and}
 use Rattle.base.specs.Equal.{zero_word}
 use Rattle.fold_unfold.proofs.Answered.{tests_refuse, passes_refuse, accepts_counted, buffer_refuses, record_written}
+use Rattle.std.proofs.Common.{true≢false}
 use Rattle.fold_unfold.proofs.marked_statements.Goals as goal
+use Rattle.fold_unfold.proofs.marked_statements.Goals.{in-Ok, in-Err}
 
-pub checked-r-requires : goal.checked-r-requires
-checked-r-requires c = record { types_value = c.requires.ready.typed; in_bounds = search rules; zeros = zero_word 256 }
+pub checked-requires-clause-zeros : goal.checked-requires-clause-zeros
+checked-requires-clause-zeros c = zero_word 256
 
-pub returns-then-r-ne0 : goal.returns-then-r-ne0
-returns-then-r-ne0 c =
+pub returns-in_err-checked : goal.returns-in_err-checked
+returns-in_err-checked c =
     let z = c.requires.all_zero in
-    tests_refuse c.checked-r.ensures c.if-r-ne0.true z.forms z.whats z.blank
+    let r = err_from_is_err_and c.from_residual.result c.from_residual.ensures.1 in
+    rw (r.1, r.2) (tests_refuse c.in_err-checked.ensures z.forms z.whats z.blank)
 
-pub analyse-v-requires : goal.analyse-v-requires
-analyse-v-requires c =
+pub analyse-requires : goal.analyse-requires
+analyse-requires c =
     let z = c.requires.all_zero in
-    let C = c.checked-r.ensures.clear c.if-r-ne0.false c.args.offs.now c.requires.ready in
+    let C = c.in_ok-checked.ensures.clear refl c.args.offs.now c.requires.ready in
     record { accepted = C.accepted; shared = C.shared; wiped = (z.forms, z.whats); store_long = (C.forms, C.whats) }
 
-pub finish-requires : goal.finish-requires
-finish-requires c = accepts_counted c.checked-r.ensures c.if-r-ne0.false c.analyse-v.ensures c.in-Over.is
+pub finish-g-requires : goal.finish-g-requires
+finish-g-requires c = accepts_counted c.in_ok-checked.ensures c.in-Ok.ensures
 
-pub returns-in-Refused : goal.returns-in-Refused
-returns-in-Refused c =
-    passes_refuse c.checked-r.ensures c.if-r-ne0.false c.analyse-v.ensures c.in-Refused.is c.wipe16.ensures c.wipe16-in-Refused.ensures c.wipe.ensures
+pub returns-then-is_err : goal.returns-then-is_err
+returns-then-is_err c =
+    let zf = c.fill-then-is_err.ensures.after (λ y e. e) in
+    let zw = c.fill-then-is_err-2.ensures.after (λ y e. e) in
+    elim c.match-analyse.branch [
+      | in-Ok w ↦
+          let e = rw w.g-is at (sym c.is_err.ensures.value ∙ c.if-is_err.true) in
+          rw (w.out-is, w.g-is) (buffer_refuses c.in_ok-checked.ensures w.in-Ok.ensures w.finish-g.ensures e zf zw)
+      | in-Err w ↦ rw (w.out-is, w.g-is) (passes_refuse c.in_ok-checked.ensures w.in-Err.ensures zf zw (w.fill.ensures.after (λ y e. e)))
+    ]
 
-pub returns-then-finish : goal.returns-then-finish
-returns-then-finish c =
-    record_written c.checked-r.ensures c.if-r-ne0.false c.analyse-v.ensures c.in-Over.is c.finish.ensures c.if-finish.true
-
-pub returns-else-finish : goal.returns-else-finish
-returns-else-finish c =
-    buffer_refuses c.checked-r.ensures c.if-r-ne0.false c.analyse-v.ensures c.in-Over.is c.finish.ensures c.if-finish.false c.wipe16-else-finish.ensures c.wipe16-else-finish-2.ensures
+pub returns-else-is_err : goal.returns-else-is_err
+returns-else-is_err c = elim c.match-analyse.branch [
+  | in-Ok w ↦
+      let e = rw w.g-is at (sym c.is_err.ensures.value ∙ c.if-is_err.false) in
+      rw (w.out-is, w.g-is) (record_written c.in_ok-checked.ensures w.in-Ok.ensures w.finish-g.ensures e)
+  | in-Err w ↦ absurd (true≢false (rw w.g-is at (sym c.is_err.ensures.value ∙ c.if-is_err.false)))
+]

@@ -7,15 +7,6 @@ pub returns-then-n-r : goal.returns-then-n-r
 returns-then-n-r c =
     let P = pops_nothing c.args.blocks.now c.args.n c.args.waits.now c.requires.four (omega (arith, c.first_rank-r.ensures)) in record { popping = P.popping; words = P.words; block = P.block }
 
-pub bounds-waits-w : goal.bounds-waits-w
-bounds-waits-w c = omega (arith, c.requires.four, c.requires.n_bound)
-
-pub bounds-waits-w-2 : goal.bounds-waits-w-2
-bounds-waits-w-2 c = omega (arith, c.requires.four, c.requires.n_bound)
-
-pub bounds-blocks-r : goal.bounds-blocks-r
-bounds-blocks-r c = omega (arith, c.requires.n_in_bounds)
-
 pub returns : goal.returns
 returns c =
     let P = pops_first c.args.blocks.now c.args.n c.args.waits.now c.requires.four _ _ c.first_rank-r.ensures (omega arith) c.mask.ensures in record { popping = P.popping; words = P.words; block = P.block }

@@ -27,6 +27,6 @@ module _ (fn : List ℕ) where
 pub returns-then-entry : goal.returns-then-entry
 returns-then-entry c = λ fn L l. rw c.if-entry.true (entry_told fn c.args.i)
 
-pub returns : goal.returns
-returns c = λ fn L l.
+pub returns-else-entry : goal.returns-else-entry
+returns-else-entry c = λ fn L l.
     rw c.if-entry.false (item_told fn c.args.i c.small.result l (c.small.ensures ∙ mod-eq_of_lt (omega (arith, L))))

@@ -1,5 +1,4 @@
 -- `statements::put_items` meets its contract. The loop's invariant: the first j items are put. Assumes nothing.
-use borrow.Author.Rules.{rules}
 use mathlib.Core.Path.{◌≡◌, refl, ap}
 use mathlib.Core.List.{List, [], ◌∷◌, ◌++◌}
 use Prim.Native.Nat.{ℕ, zero, suc, ◌+◌, ◌<◌}
@@ -22,7 +21,7 @@ pairs_suc (suc j) (x ∷ a) (y ∷ b) h l = ap (λ (t : List Entry). (x, y) ∷ 
 
 pub loop-j-init : goal.loop-j-init
 unfolding pairs
-loop-j-init c = (search rules, search rules, search rules, puts_none c.requires.counted)
+loop-j-init c = puts_none c.requires.counted
 
 pub loop-j-preserved : goal.loop-j-preserved
 loop-j-preserved c =
@@ -31,10 +30,4 @@ loop-j-preserved c =
     let more : pairs (take L.j a.ops.now) (take L.j a.args.now) ++ ((get_or a.ops.now L.j 0, get_or a.args.now L.j 0) ∷ [])
     ≡ pairs (take (L.j + 1) a.ops.now) (take (L.j + 1) a.args.now) =
     rw add-one (pairs_suc L.j a.ops.now a.args.now (omega arith) (omega arith)) in
-    (omega arith, L.invariant.1, L.invariant.2, rw more at (puts_then L.invariant.3 c.put-p.ensures))
-
-pub returns : goal.returns
-returns c =
-    let L = c.loop-j in
-    let e : L.j ≡ c.args.n = omega arith in
-    rw e at L.invariant.3
+    rw more at (puts_then L.invariant c.put-p.ensures)

@@ -10,12 +10,12 @@ function_statements-requires c =
     let a = c.args in record {
       ready = c.requires.ready;
       all_zero = record {
-        forms = own_zeros a.forms.now c.wipe16.ensures;
-        whats = own_zeros a.whats.now c.wipe16-2.ensures;
+        forms = own_zeros a.forms.now (c.fill.ensures.after (λ y e. e));
+        whats = own_zeros a.whats.now (c.fill-2.ensures.after (λ y e. e));
         blank = part_blank a.out.now a.used c.requires.blank_from;
       };
     }
 
 pub returns : goal.returns
 returns c =
-    call_alone c.args.out.now c.args.used c.requires.blank_from.within _ (whole_same c.wipe16.auto.a c.wipe16-2.auto.a refl c.function_statements.ensures.whole)
+    call_alone c.args.out.now c.args.used c.requires.blank_from.within _ (whole_same c.fill.auto.self c.fill-2.auto.self refl c.function_statements.ensures.whole)

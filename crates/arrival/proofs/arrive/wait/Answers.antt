@@ -6,12 +6,9 @@ use Rattle.blocks.proofs.Spots.{formed_accepted}
 use Rattle.queue.proofs.Waiting.{facts_ranking}
 use Rattle.arrival.proofs.arrive.wait.Goals as goal
 
-pub rank_of-requires : goal.rank_of-requires
-rank_of-requires c = record { laid = c.requires.formed.laid; b_bound = c.requires.bit_for.0 }
-
-pub insert-requires : goal.insert-requires
-insert-requires c =
-    let R = facts_ranking (formed_accepted c.requires.formed) in record { four = c.requires.bit_for.1; r_bound = omega (arith, c.rank_of.ensures, R.few, R.below _ c.requires.bit_for.0) }
+pub insert-requires-clause-r_bound : goal.insert-requires-clause-r_bound
+insert-requires-clause-r_bound c =
+    let R = facts_ranking (formed_accepted c.requires.formed) in omega (arith, c.rank_of.ensures, R.few, R.below _ c.requires.bit_for.0)
 
 pub returns : goal.returns
 returns c =

@@ -1,15 +1,14 @@
 -- `assign::give::put_all` meets its contract. Assumes nothing.
 use native.Mathlib.Omega.{arith}
 use Rattle.assign.proofs.Putting.{pen_from}
-use Rattle.assign.proofs.Along.{along_start, along_length, along_end, along_inside, along_far, along_room, along_on}
+use Rattle.assign.proofs.Along.{along_start, along_end, along_inside, along_far, along_room, along_on}
 use Rattle.assign.proofs.give.put_all.Goals as goal
 
 pub loop-q-init : goal.loop-q-init
 loop-q-init c = along_start c.requires.list_value c.requires.from_value
 
-pub put_statement-q-requires : goal.put_statement-q-requires
-put_statement-q-requires c =
-    let A = c.loop-q.invariant in record { from_in_bounds = along_inside A c.loop-q-test.true; room = along_room A c.loop-q-test.true c.requires.room_all }
+pub put_statement-q-requires-clause-room : goal.put_statement-q-requires-clause-room
+put_statement-q-requires-clause-room c = along_room c.loop-q.invariant c.loop-q-test.true c.requires.room_all
 
 pub loop-q-smaller : goal.loop-q-smaller
 loop-q-smaller c =
@@ -20,9 +19,6 @@ loop-q-smaller c =
 pub loop-q-preserved : goal.loop-q-preserved
 loop-q-preserved c =
     along_on c.loop-q.invariant c.loop-q-test.true c.put_statement-q.ensures
-
-pub shape_of-out : goal.shape_of-out
-shape_of-out c = along_length c.loop-q.invariant
 
 pub returns : goal.returns
 returns c = along_end c.loop-q.invariant c.loop-q-test.false

@@ -1,11 +1,8 @@
--- `assign::list::operands_end` meets its contract: k operands end where those from the i-th on do. Assumes nothing.
+-- `assign::list::operands_end` meets its contract: k operands end where those that are left do. Assumes nothing.
 use mathlib.Core.Path.{◌≡◌}
-use Prim.Native.Nat.{◌-◌, ◌≤◌}
+use Prim.Native.Nat.{◌-◌}
 use Rattle.assign.specs.Words.{operands_end}
 use Rattle.assign.proofs.list.operands_end.Given as goal
 
-abbrev pub invariant-loop-i : goal.invariant-loop-i
-invariant-loop-i l = (l.i ≤ l.k) × (operands_end l.list l.k l.at ≡ operands_end l.list (l.k - l.i) l.a)
-
-abbrev pub decreases-loop-i : goal.decreases-loop-i
-decreases-loop-i l = l.k - l.i
+abbrev pub invariant-loop : goal.invariant-loop
+invariant-loop l = operands_end l.list l.k l.at ≡ operands_end l.list (l.k - l.counter) l.a

@@ -7,7 +7,7 @@ use native.Mathlib.Numerals.{add-one}
 use native.Mathlib.Omega.{arith}
 use native.Mathlib.Decide.{ℕ_discrete}
 use borrow.Author.Tests.{eq-eqb, ne_eqb}
-use lib.ListN.{length, get_or, set, length-set}
+use lib.ListN.{length, get_or, set}
 use lib.Seq.{get_or-set_same, get_or-set_other}
 use Rattle.model.specs.Words.{count_below}
 use Rattle.model.specs.Function.{nblocks, nitems, op, arg}
@@ -17,7 +17,7 @@ use Rattle.blocks.proofs.Spots.{target_block}
 use Rattle.mir.specs.Sizes.{Formed}
 use Rattle.blocks.proofs.join_points.count_incoming.Invariants.{Counted, aims}
 use Rattle.blocks.proofs.join_points.count_incoming.Goals as goal
-use Rattle.blocks.proofs.join_points.count_incoming.Goals.{then-op_of-eq10, else-op_of-eq10}
+use Rattle.blocks.proofs.join_points.count_incoming.Goals.{then-op_of-eq-TARGET, else-op_of-eq-TARGET}
 
 counted_none : (fn counts : List ℕ) → ((c : ℕ) → get_or counts c 0 ≡ 0) → Counted fn counts 0
 counted_none fn counts z c l = z c ∙ sym (count_zero (aims fn c))
@@ -44,53 +44,38 @@ module _ (fn counts : List ℕ) (i : ℕ) (h : Counted fn counts i) where
   counted_most x l = rw (h x l) (count_most (aims fn x) i)
 
 -- the target names a block, whose count is small
-named : {fn : List ℕ} → Formed fn → (i o a x : ℕ) → i < nitems fn → o ≡ op fn i → o ≡ 10 → a ≡ arg fn i → x ≡ a → x < nblocks fn
-named F i o a x l e z d f =
+named : {fn : List ℕ} → Formed fn → (i o a : ℕ) → i < nitems fn → o ≡ op fn i → o ≡ 10 → a ≡ arg fn i → a < nblocks fn
+named F i o a l e z d =
     let t = target_block F {i = i} l (sym e ∙ z) in
     omega arith
 
 pub loop-i-init : goal.loop-i-init
-loop-i-init c =
-    (omega arith, refl, counted_none _ c.args.counts.now c.requires.zeros)
+loop-i-init c = counted_none _ c.args.counts.now c.requires.zeros
 
-pub offset_bounds-counts-c : goal.offset_bounds-counts-c
-offset_bounds-counts-c c = omega (arith, named c.requires.formed c.loop-i.i _ _ c.wide-c.result (omega arith) c.op_of.ensures c.if-op_of-eq10.true c.arg_of.ensures c.wide-c.ensures, c.requires)
-
-pub bounds-counts-c : goal.bounds-counts-c
-bounds-counts-c c = omega (arith, named c.requires.formed c.loop-i.i _ _ c.wide-c.result (omega arith) c.op_of.ensures c.if-op_of-eq10.true c.arg_of.ensures c.wide-c.ensures, c.requires)
+pub bounds-counts-arg_of : goal.bounds-counts-arg_of
+bounds-counts-arg_of c =
+    omega (arith, named c.requires.formed c.loop-i.i _ _ (omega arith) c.op_of.ensures c.if-op_of-eq-TARGET.true c.arg_of.ensures, c.requires)
 
 pub overflow_add-counts : goal.overflow_add-counts
 overflow_add-counts c =
     let L = c.loop-i in
-    omega (arith, counted_most _ L.counts L.i L.invariant.2 c.wide-c.result (named c.requires.formed c.loop-i.i _ _ c.wide-c.result (omega arith) c.op_of.ensures c.if-op_of-eq10.true c.arg_of.ensures c.wide-c.ensures), c.requires)
+    omega (arith, counted_most _ L.counts L.i L.invariant c.arg_of.result (named c.requires.formed L.i _ _ (omega arith) c.op_of.ensures c.if-op_of-eq-TARGET.true c.arg_of.ensures), c.requires)
 
-pub offset_bounds-counts-c-then-op_of-eq10 : goal.offset_bounds-counts-c-then-op_of-eq10
-offset_bounds-counts-c-then-op_of-eq10 c = omega (arith, named c.requires.formed c.loop-i.i _ _ c.wide-c.result (omega arith) c.op_of.ensures c.if-op_of-eq10.true c.arg_of.ensures c.wide-c.ensures, c.requires)
-
-pub bounds-counts-c-then-op_of-eq10 : goal.bounds-counts-c-then-op_of-eq10
-bounds-counts-c-then-op_of-eq10 c = omega (arith, named c.requires.formed c.loop-i.i _ _ c.wide-c.result (omega arith) c.op_of.ensures c.if-op_of-eq10.true c.arg_of.ensures c.wide-c.ensures, c.requires)
+pub bounds-counts-arg_of-then-op_of-eq-TARGET : goal.bounds-counts-arg_of-then-op_of-eq-TARGET
+bounds-counts-arg_of-then-op_of-eq-TARGET c =
+    omega (arith, named c.requires.formed c.loop-i.i _ _ (omega arith) c.op_of.ensures c.if-op_of-eq-TARGET.true c.arg_of.ensures, c.requires)
 
 pub loop-i-preserved : goal.loop-i-preserved
 loop-i-preserved c =
     let L = c.loop-i in
     let f = c.op_of in
-    elim c.if-op_of-eq10.branch [
-      | then-op_of-eq10 w ↦
-          let t = w.if-op_of-eq10.true in
-          let m : w.wide-c.result < length L.counts = omega (arith, named c.requires.formed L.i _ _ w.wide-c.result (omega arith) f.ensures t w.arg_of.ensures w.wide-c.ensures, c.requires) in (
-            omega arith,
-            ap length w.counts-is ∙ simp length-set L.invariant.1,
-            rw w.counts-is (counted_target _ L.counts L.i L.invariant.2 (sym f.ensures ∙ t) w.wide-c.result _ (w.wide-c.ensures ∙ w.arg_of.ensures) m refl),
-          )
-      | else-op_of-eq10 w ↦ (
-        omega arith,
-        ap length w.counts-is ∙ L.invariant.1,
-        rw w.counts-is (counted_other _ L.counts L.i L.invariant.2 (λ z. w.if-op_of-eq10.false (f.ensures ∙ z))),
-      )
+    elim c.if-op_of-eq-TARGET.branch [
+      | then-op_of-eq-TARGET w ↦
+          let t = w.if-op_of-eq-TARGET.true in
+          let m : w.arg_of.result < length L.counts = omega (arith, named c.requires.formed L.i _ _ (omega arith) f.ensures t w.arg_of.ensures, c.requires) in
+          rw w.counts-is (counted_target _ L.counts L.i L.invariant (sym f.ensures ∙ t) w.arg_of.result _ w.arg_of.ensures m refl)
+      | else-op_of-eq-TARGET w ↦ rw w.counts-is (counted_other _ L.counts L.i L.invariant (λ z. w.if-op_of-eq-TARGET.false (f.ensures ∙ z)))
     ]
 
-pub shape_of-counts : goal.shape_of-counts
-shape_of-counts c = c.loop-i.invariant.1
-
 pub returns : goal.returns
-returns c = let L = c.loop-i in (L.invariant.1, counted_all _ L.counts L.i L.invariant.2 (omega arith))
+returns c = let L = c.loop-i in (omega arith, counted_all _ L.counts L.i L.invariant (omega arith))

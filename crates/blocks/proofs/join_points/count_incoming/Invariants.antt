@@ -2,9 +2,9 @@
 use mathlib.Core.Path.{◌≡◌}
 use mathlib.Core.Bool.{Bool, ◌&&◌}
 use mathlib.Core.List.{List}
-use Prim.Native.Nat.{ℕ, ◌-◌, ◌≤◌, ◌<◌}
+use Prim.Native.Nat.{ℕ, ◌<◌}
 use lib.Dec.{eqb}
-use lib.ListN.{length, get_or}
+use lib.ListN.{get_or}
 use Rattle.model.specs.Words.{count_below}
 use Rattle.model.specs.Function.{nblocks, op, arg}
 use Rattle.blocks.proofs.join_points.count_incoming.Given as goal
@@ -17,7 +17,4 @@ abbrev pub Counted : List ℕ → List ℕ → ℕ → Type 0
 Counted fn counts i = (c : ℕ) → c < nblocks fn → get_or counts c 0 ≡ count_below (aims fn c) i
 
 abbrev pub invariant-loop-i : goal.invariant-loop-i
-invariant-loop-i l = (l.i ≤ l.n) × (length l.counts ≡ length l.initial.counts) × Counted l.fun l.counts l.i
-
-abbrev pub decreases-loop-i : goal.decreases-loop-i
-decreases-loop-i l = l.n - l.i
+invariant-loop-i l = Counted l.fun l.counts l.i

@@ -1,6 +1,6 @@
 -- `blocks::join_points::fill_join_points` meets its contract: the blocks before b have their share's number, those from b on their count
 -- of incoming target items. Assumes nothing.
-use mathlib.Core.Path.{◌≡◌, refl, sym, ap, ◌∙◌}
+use mathlib.Core.Path.{◌≡◌, sym, ap, ◌∙◌}
 use mathlib.Core.Bool.{Bool, true, false, ◌||◌, ◌&&◌}
 use mathlib.Core.List.{List}
 use Prim.Native.Nat.{ℕ, suc, ◌+◌, ◌≤◌, ◌<◌}
@@ -8,7 +8,7 @@ use native.Mathlib.Numerals.{add-one}
 use native.Mathlib.Omega.{arith}
 use native.Mathlib.Decide.{ℕ_discrete}
 use lib.Dec.{eqb, ltb}
-use lib.ListN.{length, get_or, set, length-set}
+use lib.ListN.{length, get_or, set}
 use lib.Seq.{get_or-set_same, get_or-set_other}
 use Rattle.model.specs.Words.{count_below}
 use Rattle.model.specs.Function.{nblocks}
@@ -58,63 +58,22 @@ module _ (fn points : List ℕ) (k b : ℕ) (N : Numbered fn points k b) where
         let p : is_join_point fn b ≡ false = sym is_point ∙ j in
         numbered_set 0 k (rw p) (rw (count_fail (is_join_point fn) b p) N.so_far)
 
-pub count_incoming-requires : goal.count_incoming-requires
-count_incoming-requires c =
-    c.requires
-
 pub loop-b-init : goal.loop-b-init
-loop-b-init c =
-    (omega arith, refl, numbered_none _ c.count_incoming.new.counts c.count_incoming.ensures.1)
-
-pub offset_bounds-points-b : goal.offset_bounds-points-b
-offset_bounds-points-b c =
-    omega (arith, c.requires)
-
-pub bounds-points-b : goal.bounds-points-b
-bounds-points-b c = omega (arith, c.loop-b.invariant.1, c.count_incoming.ensures.0, c.requires)
+loop-b-init c = numbered_none _ c.count_incoming.new.counts c.count_incoming.ensures.1
 
 pub overflow_add-k : goal.overflow_add-k
-overflow_add-k c =
-    let L = c.loop-b in omega (arith, numbered_most _ L.points L.k L.b L.invariant.2, c.requires)
-
-pub offset_bounds-points-b-then-is_join : goal.offset_bounds-points-b-then-is_join
-offset_bounds-points-b-then-is_join c = omega (arith, c.requires)
-
-pub bounds-points-b-then-is_join : goal.bounds-points-b-then-is_join
-bounds-points-b-then-is_join c = omega (arith, c.loop-b.invariant.1, c.count_incoming.ensures.0, c.requires)
-
-pub offset_bounds-points-b-else-is_join : goal.offset_bounds-points-b-else-is_join
-offset_bounds-points-b-else-is_join c = omega (arith, c.requires)
-
-pub bounds-points-b-else-is_join : goal.bounds-points-b-else-is_join
-bounds-points-b-else-is_join c = omega (arith, c.loop-b.invariant.1, c.count_incoming.ensures.0, c.requires)
-
-pub overflow_add-b : goal.overflow_add-b
-overflow_add-b c =
-    omega (arith, c.requires)
+overflow_add-k c = omega (arith, numbered_most _ c.loop-b.points c.loop-b.k c.loop-b.b c.loop-b.invariant, c.requires)
 
 pub loop-b-preserved : goal.loop-b-preserved
 loop-b-preserved c =
     let L = c.loop-b in
     let f = c.is_join in
-    let m : L.b < length L.points = omega (arith, c.loop-b.invariant.1, c.count_incoming.ensures.0, c.requires) in
+    let m : L.b < length L.points = omega (arith, c.requires) in
     elim c.if-is_join.branch [
-      | then-is_join w ↦ (
-        omega arith,
-        ap length w.points-is ∙ simp length-set L.invariant.1,
-        rw (w.points-is, w.k-is) (numbered_join _ L.points L.k L.b L.invariant.2 (omega arith) m f.result f.ensures w.if-is_join.true),
-      )
-      | else-is_join w ↦ (
-        omega arith,
-        ap length w.points-is ∙ simp length-set L.invariant.1,
-        rw (w.points-is, w.k-is) (numbered_plain _ L.points L.k L.b L.invariant.2 (omega arith) m f.result f.ensures w.if-is_join.false),
-      )
+      | then-is_join w ↦ rw (w.points-is, w.k-is) (numbered_join _ L.points L.k L.b L.invariant (omega arith) m f.result f.ensures w.if-is_join.true)
+      | else-is_join w ↦ rw (w.points-is, w.k-is) (numbered_plain _ L.points L.k L.b L.invariant (omega arith) m f.result f.ensures w.if-is_join.false)
     ]
-
-pub shape_of-points : goal.shape_of-points
-shape_of-points c =
-    c.loop-b.invariant.1 ∙ c.count_incoming.ensures.0
 
 pub returns : goal.returns
 returns c =
-    let L = c.loop-b in record { count = c.wide.ensures ∙ numbered_count _ L.points L.k L.b L.invariant.2 (omega arith); shares = (shape_of-points c, λ b l. L.invariant.2.done b (omega arith)) }
+    let L = c.loop-b in record { count = numbered_count _ L.points L.k L.b L.invariant (omega arith); shares = (omega arith, λ b l. L.invariant.done b (omega arith)) }

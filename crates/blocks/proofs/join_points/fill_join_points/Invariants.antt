@@ -2,8 +2,8 @@
 -- of incoming target items. Assumes nothing.
 use mathlib.Core.Path.{◌≡◌}
 use mathlib.Core.List.{List}
-use Prim.Native.Nat.{ℕ, ◌-◌, ◌≤◌, ◌<◌}
-use lib.ListN.{length, get_or}
+use Prim.Native.Nat.{ℕ, ◌≤◌, ◌<◌}
+use lib.ListN.{get_or}
 use Rattle.model.specs.Words.{count_below}
 use Rattle.model.specs.Function.{nblocks}
 use Rattle.model.specs.Block.{incoming, is_join_point}
@@ -17,7 +17,4 @@ pub record Numbered (fn points : List ℕ) (k b : ℕ) : Type 0 where
   pub ahead : (c : ℕ) → b ≤ c → c < nblocks fn → get_or points c 0 ≡ incoming fn c
 
 abbrev pub invariant-loop-b : goal.invariant-loop-b
-invariant-loop-b l = (l.b ≤ l.n) × (length l.points ≡ length l.initial.points) × Numbered l.fun l.points l.k l.b
-
-abbrev pub decreases-loop-b : goal.decreases-loop-b
-decreases-loop-b l = l.n - l.b
+invariant-loop-b l = Numbered l.fun l.points l.k l.b

@@ -17,6 +17,7 @@ use Rattle.mir.specs.Parts.{is_some}
 use Rattle.blocks.proofs.Elements.{spot_ops, spot_args, spot_first}
 use Rattle.blocks.proofs.place.is_place.Invariants.{rest}
 use Rattle.blocks.proofs.place.is_place.Goals as goal
+use Rattle.blocks.proofs.place.is_place.Goals.{then-n-eq0-via-then-n-eq0, then-n-eq0-via-else-n-eq0+then-args-n, then-n-eq0-via-else-n-eq0+else-args-n+then-ops-ne-ROOT}
 
 module _ (ops args : List ℕ) where
   refuted : ((q : Spot) → spot_of ops args ≡ some q → ⊥) → false ≡ is_some (spot_of ops args)
@@ -56,29 +57,25 @@ rest_start [] args l m e = absurd (omega arith)
 rest_start (o ∷ ops) [] l m e = absurd (omega arith)
 rest_start (o ∷ ops) (a ∷ args) l m e = split_option (elems_of ops args) (λ d. cc (eq-eqb o 0 e)) (λ p d. cc (eq-eqb o 0 e))
 
-pub returns-then-n-lt1 : goal.returns-then-n-lt1
-returns-then-n-lt1 c = empty _ _ c.if-n-lt1.true
-
-pub returns-then-args-n : goal.returns-then-args-n
-returns-then-args-n c = uneven _ _ c.if-args-n.true
-
-pub returns-then-ops-ne0 : goal.returns-then-ops-ne0
-returns-then-ops-ne0 c = rootless _ _ c.if-ops-ne0.true
+pub returns-then-n-eq0 : goal.returns-then-n-eq0
+returns-then-n-eq0 c = elim c.then-n-eq0.branch [
+  | then-n-eq0-via-then-n-eq0 w ↦ empty _ _ (omega arith)
+  | then-n-eq0-via-else-n-eq0+then-args-n w ↦ uneven _ _ w.if-args-n.true
+  | then-n-eq0-via-else-n-eq0+else-args-n+then-ops-ne-ROOT w ↦ rootless _ _ w.if-ops-ne-ROOT.true
+]
 
 pub loop-j-init : goal.loop-j-init
-loop-j-init c = (omega arith, omega arith, rest_start _ _ (omega arith) (omega arith) c.if-ops-ne0.false)
+loop-j-init c = rest_start _ _ (omega arith) (omega arith) c.if-ops-ne-ROOT.false
 
 pub returns-then-not-is_element : goal.returns-then-not-is_element
 returns-then-not-is_element c =
-    let L = c.loop-j in
     let f = c.is_element in
-    stopped _ _ L.j (omega arith) L.invariant.1 f.result f.ensures c.if-not-is_element.true L.invariant.2
+    stopped _ _ c.loop-j.j (omega arith) (omega arith) f.result f.ensures c.if-not-is_element.true c.loop-j.invariant
 
 pub loop-j-preserved : goal.loop-j-preserved
 loop-j-preserved c =
-    let L = c.loop-j in
     let f = c.is_element in
-    (omega arith, L.invariant.1, carried _ _ L.j (omega arith) L.invariant.1 f.result f.ensures c.if-not-is_element.false L.invariant.2)
+    carried _ _ c.loop-j.j (omega arith) (omega arith) f.result f.ensures c.if-not-is_element.false c.loop-j.invariant
 
 pub returns : goal.returns
-returns c = let L = c.loop-j in sym (L.invariant.2 ∙ rest_end _ _ L.j (omega arith) L.invariant.1)
+returns c = sym (c.loop-j.invariant ∙ rest_end _ _ c.loop-j.j (omega arith) (omega arith))

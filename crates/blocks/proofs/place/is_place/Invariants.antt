@@ -2,8 +2,8 @@
 use mathlib.Core.Path.{◌≡◌}
 use mathlib.Core.Bool.{Bool}
 use mathlib.Core.List.{List}
-use Prim.Native.Nat.{ℕ, ◌-◌, ◌≤◌}
-use lib.ListN.{length, drop}
+use Prim.Native.Nat.{ℕ}
+use lib.ListN.{drop}
 use Rattle.model.specs.Calls.{elems_of, spot_of}
 use Rattle.mir.specs.Parts.{is_some}
 use Rattle.blocks.proofs.place.is_place.Given as goal
@@ -13,7 +13,4 @@ abbrev pub rest : List ℕ → List ℕ → ℕ → Bool
 rest ops args j = is_some (elems_of (drop j ops) (drop j args))
 
 abbrev pub invariant-loop-j : goal.invariant-loop-j
-invariant-loop-j l = (1 ≤ l.j) × (length l.args ≡ length l.ops) × (is_some (spot_of l.ops l.args) ≡ rest l.ops l.args l.j)
-
-abbrev pub decreases-loop-j : goal.decreases-loop-j
-decreases-loop-j l = length l.ops - l.j
+invariant-loop-j l = is_some (spot_of l.ops l.args) ≡ rest l.ops l.args l.j

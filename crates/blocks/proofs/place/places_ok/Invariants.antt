@@ -2,13 +2,9 @@
 -- Assumes nothing.
 use mathlib.Core.Path.{◌≡◌}
 use mathlib.Core.Bool.{true}
-use Prim.Native.Nat.{◌-◌, ◌≤◌}
 use Rattle.model.specs.Words.{all}
 use Rattle.model.specs.Block.{root_before, place_ok}
 use Rattle.blocks.proofs.place.places_ok.Given as goal
 
 abbrev pub invariant-loop-i : goal.invariant-loop-i
-invariant-loop-i l = (l.i ≤ l.n) × (l.root ≡ root_before l.fun l.i) × (all (place_ok l.fun) l.i ≡ true)
-
-abbrev pub decreases-loop-i : goal.decreases-loop-i
-decreases-loop-i l = l.n - l.i
+invariant-loop-i l = record { root : l.root ≡ root_before l.fun l.i; passed : all (place_ok l.fun) l.i ≡ true }

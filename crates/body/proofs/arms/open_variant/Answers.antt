@@ -1,34 +1,38 @@
 -- `body::arms::open_variant` meets its contract: by what `downcast` ensures of the place read.
-use Rattle.body.proofs.Places.{place_range, place_spot, place_locals, place_given}
+use mathlib.Core.Path.{ap, ◌∙◌}
+use Rattle.env.specs.Answers.{granted}
+use Rattle.body.proofs.Answered.{answered_done}
+use Rattle.body.proofs.Places.{place_range, place_asked, place_there}
 use Rattle.body.proofs.arms.open_variant.Goals as goal
 
-pub ops_from-ops-requires : goal.ops_from-ops-requires
-ops_from-ops-requires c =
+pub ops_from-ops-requires-clause-range : goal.ops_from-ops-requires-clause-range
+ops_from-ops-requires-clause-range c =
     let p = c.requires in
     let (l, u) = p.used_at in
-    record { laid = p.accepted.formed.laid; range = place_range p.accepted l u c.root_before-r.ensures }
+    place_range p.accepted l u c.root_before-r.ensures
 
-pub args_from-args-requires : goal.args_from-args-requires
-args_from-args-requires c =
+pub args_from-args-requires-clause-range : goal.args_from-args-requires-clause-range
+args_from-args-requires-clause-range c =
     let p = c.requires in
     let (l, u) = p.used_at in
-    record { laid = p.accepted.formed.laid; range = place_range p.accepted l u c.root_before-r.ensures }
+    place_range p.accepted l u c.root_before-r.ensures
 
-pub downcast-m-requires : goal.downcast-m-requires
-downcast-m-requires c =
+pub downcast-requires : goal.downcast-requires
+downcast-requires c =
     let p = c.requires in
-    let A = p.accepted in
     let (l, u) = p.used_at in
-    let r = c.root_before-r.ensures in
-    let z = c.local_types.ensures in
-    let o = c.ops_from-ops.ensures in
-    let a = c.args_from-args.ensures in
-    (A.ready, (place_locals A l u r _ _ _ z o a, place_given A l u r _ _ _ z o a p.stated))
+    place_asked p.accepted l u c.root_before-r.ensures _ _ _ c.local_types.ensures c.ops_from-ops.ensures c.args_from-args.ensures (record { state = p.opening.state; holds = p.opening.holds })
+
+pub unwrap-requires : goal.unwrap-requires
+unwrap-requires c =
+    let p = c.requires in
+    let (l, u) = p.used_at in
+    let M = place_there p.accepted l u c.root_before-r.ensures _ _ _ c.local_types.ensures c.ops_from-ops.ensures c.args_from-args.ensures c.downcast.ensures p.opening.state p.opening.holds in
+    answered_done _ (M.answer ∙ ap granted p.opening.opens)
 
 pub returns : goal.returns
 returns c E h D d =
     let p = c.requires in
     let (l, u) = p.used_at in
     let z = c.local_types.ensures in
-    let q = place_spot p.accepted l u c.root_before-r.ensures _ _ _ z c.ops_from-ops.ensures c.args_from-args.ensures in
-    rw z at ((c.downcast-m.ensures E _ (rw z h) q).moved D d)
+    rw z at ((place_there p.accepted l u c.root_before-r.ensures _ _ _ z c.ops_from-ops.ensures c.args_from-args.ensures c.downcast.ensures E h).moved D d)

@@ -1,7 +1,6 @@
 -- `body::items::tell` meets its contract: by what `record` ensures, where the pass records.
-use mathlib.Core.Path.{◌≡◌, refl}
-use Prim.Native.Nat.{suc}
-use native.Mathlib.Omega.{arith}
+use mathlib.Core.Path.{refl}
+use native.Mathlib.Numerals.{add-one}
 use Rattle.base.specs.Tests.{clash}
 use Rattle.statements.proofs.Puts.{alike_at}
 use Rattle.body.proofs.items.tell.Goals as goal
@@ -9,8 +8,7 @@ use Rattle.body.proofs.items.tell.Goals as goal
 pub returns-then-o : goal.returns-then-o
 returns-then-o c =
     let t = c.if-o.true in
-    let m : c.small.result ≡ suc c.args.number = omega (arith, c.small.ensures, c.requires.number_bound) in
-    record { told = λ e. rw (← m) c.«record».ensures.puts; silent = λ e. clash (cc) }
+    record { told = λ e. rw (← add-one c.args.number) c.«record».ensures.puts; silent = λ e. clash (cc) }
 
 pub returns : goal.returns
 returns c =

@@ -1,9 +1,8 @@
 -- `body::tries::rest_of` meets its contract: the variants before v that are not taken are counted.
-use mathlib.Core.Path.{◌≡◌, ◌∙◌}
+use mathlib.Core.Path.{◌≡◌}
 use mathlib.Core.Bool.{true}
 use mathlib.Core.List.{List}
 use Prim.Native.Nat.{ℕ, ◌≤◌, ◌<◌}
-use native.Mathlib.Nat.{mod-eq_of_lt}
 use native.Mathlib.Omega.{arith}
 use Rattle.model.specs.Types.{ntypes, types_ok, count}
 use Rattle.base.specs.Typed.{types_typed}
@@ -16,36 +15,30 @@ use Rattle.body.proofs.tries.rest_of.Goals.{then-taken-v-eq0, else-taken-v-eq0}
 few : (Γ : List ℕ) (t : ℕ) {n : ℕ} → types_ok Γ ≡ true → t < ntypes Γ → n ≡ count Γ t → n ≤ 16384
 few Γ t o l e = omega (arith, e, count_few (types_typed Γ o) l)
 
-pub count_of-n-requires : goal.count_of-n-requires
-count_of-n-requires c =
-    let p = c.requires in record { sized = types_sized _ p.types_value; t_bound = p.t_bound }
+pub count_of-v-end-requires-clause-sized : goal.count_of-v-end-requires-clause-sized
+count_of-v-end-requires-clause-sized c = types_sized _ c.requires.types_value
 
 pub loop-v-init : goal.loop-v-init
-loop-v-init c = (omega arith, omega arith, counts_first _ _ _)
+loop-v-init c = (omega arith, counts_first _ _ _)
 
 pub bounds-taken-v : goal.bounds-taken-v
-bounds-taken-v c = omega (arith, few _ _ c.requires.types_value c.requires.t_bound c.count_of-n.ensures)
+bounds-taken-v c = omega (arith, few _ _ c.requires.types_value c.requires.t_bound c.count_of-v-end.ensures)
 
-pub overflow_add-left : goal.overflow_add-left
-overflow_add-left c = omega (arith, few _ _ c.requires.types_value c.requires.t_bound c.count_of-n.ensures)
-
-pub overflow_add-v : goal.overflow_add-v
-overflow_add-v c = omega (arith, few _ _ c.requires.types_value c.requires.t_bound c.count_of-n.ensures)
+pub overflow_cast-other : goal.overflow_cast-other
+overflow_cast-other c = omega (arith, few _ _ c.requires.types_value c.requires.t_bound c.count_of-v-end.ensures)
 
 pub loop-v-preserved : goal.loop-v-preserved
 loop-v-preserved c =
     let L = c.loop-v in
-    let m = few _ _ c.requires.types_value c.requires.t_bound c.count_of-n.ensures in
     elim c.if-taken-v-eq0.branch [
       | then-taken-v-eq0 w ↦ (
-        omega arith,
         omega (arith, w.left-is),
-        rw (w.left-is, w.other-is, w.small-other.ensures ∙ mod-eq_of_lt (omega arith)) (counts_left _ _ _ L.v L.invariant.2 w.if-taken-v-eq0.true),
+        rw (w.left-is, w.other-is) (counts_left _ _ _ L.v L.invariant.1 w.if-taken-v-eq0.true),
       )
-      | else-taken-v-eq0 w ↦ (omega arith, omega (arith, w.left-is), rw (w.left-is, w.other-is) (counts_taken _ _ _ L.v L.invariant.2 w.if-taken-v-eq0.false))
+      | else-taken-v-eq0 w ↦ (omega (arith, w.left-is), rw (w.left-is, w.other-is) (counts_taken _ _ _ L.v L.invariant.1 w.if-taken-v-eq0.false))
     ]
 
 pub returns : goal.returns
 returns c =
     let L = c.loop-v in
-    record { is = counts_all _ _ _ L.v L.invariant.2 (omega (arith, c.count_of-n.ensures)) }
+    record { is = counts_all _ _ _ L.v L.invariant.1 (omega (arith, c.count_of-v-end.ensures)) }

@@ -1,93 +1,82 @@
 -- `body::tries::try_arms` meets its contract: the block's exits are what is left to try from item i on.
-use mathlib.Core.Path.{◌≡◌, sym, ◌∙◌}
-use Prim.Native.Nat.{ℕ, ◌-◌, ◌<◌}
+use mathlib.Core.Path.{◌≡◌, refl, sym, ◌∙◌}
+use Prim.Native.Nat.{ℕ, ◌-◌, ◌≤◌, ◌<◌}
 use native.Mathlib.Omega.{arith}
+use Rattle.std.proofs.lemmas.Result.{err_from_is_err_and}
 use Rattle.model.specs.Function.{op}
 use Rattle.base.specs.Each.{each_none}
 use Rattle.body.proofs.Plans.{leads_same, leads_on, trying_skip, trying_denied, trying_taken, trying_over, planned_refused, planned_match, planned_ended}
 use Rattle.body.proofs.Matches.{match_sought, match_item, match_last, match_behind, match_first}
 use Rattle.body.proofs.tries.try_arms.Goals as goal
-use Rattle.body.proofs.tries.try_arms.Goals.{then-op_of-eq10+else-op_of-ne9+in_default, else-op_of-eq10}
+use Rattle.body.proofs.tries.try_arms.Goals.{then-op_of-eq-TARGET+else-op_of-ne-ARM+in_ok-try_arm, else-op_of-eq-TARGET}
 
--- an item before the end that the code has
-below : {i e s : ℕ} → e ≡ s → i < e → i < s
-below e l = omega arith
+-- an item that the loop has is one of the block's
+inside : {f e i s t : ℕ} → f ≡ s → e ≡ t → f ≤ i → i < e → (s ≤ i) × (i < t)
+inside p q l m = (omega arith, omega arith)
 
 pub loop-i-init : goal.loop-i-init
 loop-i-init c =
     let p = c.requires in
-    (omega (arith, c.start_of-i.ensures), p.blank.long, match_first p.accepted p.b_bound p.cases c.start_of-i.ensures c.stop_of-end.ensures p.stated p.blank)
+    (p.blank.long, match_first p.accepted p.b_bound p.cases c.start_of-i.ensures c.stop_of-i-end.ensures p.stated p.blank)
 
-pub op_of-requires : goal.op_of-requires
-op_of-requires c =
+pub op_of-requires-clause-i_bound : goal.op_of-requires-clause-i_bound
+op_of-requires-clause-i_bound c =
     let p = c.requires in
-    record {
-      laid = p.accepted.formed.laid;
-      i_bound = match_item p.accepted p.b_bound p.cases c.loop-i.invariant.0 (below c.stop_of-end.ensures c.loop-i-test.true);
-    }
+    let (m, l) = inside c.start_of-i.ensures c.stop_of-i-end.ensures c.loop-i.auto.i c.loop-i-test.true in
+    match_item p.accepted p.b_bound p.cases m l
 
 pub overflow_sub-i : goal.overflow_sub-i
 overflow_sub-i c =
     let p = c.requires in
-    match_behind p.accepted p.b_bound p.cases c.loop-i.invariant.0 (below c.stop_of-end.ensures c.loop-i-test.true) (sym c.op_of.ensures ∙ c.if-op_of-eq10.true)
+    let (m, l) = inside c.start_of-i.ensures c.stop_of-i-end.ensures c.loop-i.auto.i c.loop-i-test.true in
+    match_behind p.accepted p.b_bound p.cases m l (sym c.op_of.ensures ∙ c.if-op_of-eq-TARGET.true)
 
-pub op_of-requires-then-op_of-eq10 : goal.op_of-requires-then-op_of-eq10
-op_of-requires-then-op_of-eq10 c =
+pub op_of-requires-then-op_of-eq-TARGET-clause-i_bound : goal.op_of-requires-then-op_of-eq-TARGET-clause-i_bound
+op_of-requires-then-op_of-eq-TARGET-clause-i_bound c =
     let p = c.requires in
-    let l = match_item p.accepted p.b_bound p.cases c.loop-i.invariant.0 (below c.stop_of-end.ensures c.loop-i-test.true) in
-    record { laid = p.accepted.formed.laid; i_bound = omega (arith, l) }
+    let (m, l) = inside c.start_of-i.ensures c.stop_of-i-end.ensures c.loop-i.auto.i c.loop-i-test.true in
+    omega (arith, match_item p.accepted p.b_bound p.cases m l)
 
-pub try_other-requires : goal.try_other-requires
-try_other-requires c =
-    let p = c.requires in
-    record { accepted = p.accepted; sought = match_sought p.accepted p.b_bound p.cases p.stated; stated = p.stated; taken_len = c.loop-i.invariant.1 }
+pub try_other-requires-clause-sought : goal.try_other-requires-clause-sought
+try_other-requires-clause-sought c = let p = c.requires in match_sought p.accepted p.b_bound p.cases p.stated
 
-pub returns-then-op_of-ne9 : goal.returns-then-op_of-ne9
-returns-then-op_of-ne9 c E h =
+pub returns-then-op_of-ne-ARM : goal.returns-then-op_of-ne-ARM
+returns-then-op_of-ne-ARM c E h =
     let L = c.loop-i in
     let p = c.requires in
-    let l = below c.stop_of-end.ensures c.loop-i-test.true in
-    let t = sym c.op_of.ensures ∙ c.if-op_of-eq10.true in
-    let a : op c.args.fun.now (L.i - 1) ≡ 9 → ⊥ = λ z. c.if-op_of-ne9.true (c.op_of-then-op_of-eq10.ensures ∙ z) in
-    let e = match_last p.accepted p.b_bound p.cases L.invariant.0 l t a ∙ sym c.stop_of-end.ensures in
-    planned_ended p.cases.is (L.invariant.2 E h) (match_sought p.accepted p.b_bound p.cases p.stated) c.loop-i-test.true t a e (c.try_other.ensures E h)
+    let (m, l) = inside c.start_of-i.ensures c.stop_of-i-end.ensures L.auto.i c.loop-i-test.true in
+    let t = sym c.op_of.ensures ∙ c.if-op_of-eq-TARGET.true in
+    let a : op c.args.fun.now (L.i - 1) ≡ 9 → ⊥ = λ z. c.if-op_of-ne-ARM.true (c.op_of-then-op_of-eq-TARGET.ensures ∙ z) in
+    let e = match_last p.accepted p.b_bound p.cases m l t a ∙ sym c.stop_of-i-end.ensures in
+    planned_ended p.cases.is (L.invariant.1 E h) (match_sought p.accepted p.b_bound p.cases p.stated) c.loop-i-test.true t a e (c.try_other.ensures E h)
 
-pub try_arm-a-requires : goal.try_arm-a-requires
-try_arm-a-requires c =
+pub try_arm-requires-clause-sought : goal.try_arm-requires-clause-sought
+try_arm-requires-clause-sought c = let p = c.requires in match_sought p.accepted p.b_bound p.cases p.stated
+
+pub try_arm-requires-clause-preceded : goal.try_arm-requires-clause-preceded
+try_arm-requires-clause-preceded c =
     let p = c.requires in
-    let m = c.loop-i.invariant.0 in
-    let l = below c.stop_of-end.ensures c.loop-i-test.true in
-    record {
-      accepted = p.accepted;
-      sought = match_sought p.accepted p.b_bound p.cases p.stated;
-      preceded = (match_behind p.accepted p.b_bound p.cases m l (sym c.op_of.ensures ∙ c.if-op_of-eq10.true), match_item p.accepted p.b_bound p.cases m l);
-      stated = p.stated;
-      taken_len = c.loop-i.invariant.1;
-    }
+    let (m, l) = inside c.start_of-i.ensures c.stop_of-i-end.ensures c.loop-i.auto.i c.loop-i-test.true in
+    (match_behind p.accepted p.b_bound p.cases m l (sym c.op_of.ensures ∙ c.if-op_of-eq-TARGET.true), match_item p.accepted p.b_bound p.cases m l)
 
-pub returns-in-Refused : goal.returns-in-Refused
-returns-in-Refused c E h =
+pub returns-in_err-try_arm : goal.returns-in_err-try_arm
+returns-in_err-try_arm c E h =
     let L = c.loop-i in
-    let t = sym c.op_of.ensures ∙ c.if-op_of-eq10.true in
-    planned_refused c.requires.cases.is (L.invariant.2 E h)
-    (trying_denied _ _ _ E _ L.i _ c.loop-i-test.true t (sym c.op_of-then-op_of-eq10.ensures ∙ c.if-op_of-ne9.false) _ ((c.try_arm-a.ensures E h).denied _ c.in-Refused.is))
-
-pub overflow_add-i : goal.overflow_add-i
-overflow_add-i c =
-    let p = c.requires in
-    omega (arith, match_item p.accepted p.b_bound p.cases c.loop-i.invariant.0 (below c.stop_of-end.ensures c.loop-i-test.true), p.accepted.formed.laid.most_items)
+    let t = sym c.op_of.ensures ∙ c.if-op_of-eq-TARGET.true in
+    let r = err_from_is_err_and c.from_residual.result c.from_residual.ensures.1 in
+    rw (r.1, r.2) (planned_refused c.requires.cases.is (L.invariant.1 E h)
+    (trying_denied _ _ _ E _ L.i _ c.loop-i-test.true t (sym c.op_of-then-op_of-eq-TARGET.ensures ∙ c.if-op_of-ne-ARM.false) _ ((c.in_err-try_arm.ensures E h).denied _ refl)))
 
 pub loop-i-preserved : goal.loop-i-preserved
 loop-i-preserved c =
     let L = c.loop-i in (
-      omega (arith, L.invariant.0),
-      c.if-op_of-eq10.auto.taken ∙ L.invariant.1,
-      λ E h. elim c.if-op_of-eq10.branch [
-        | then-op_of-eq10+else-op_of-ne9+in_default w ↦ leads_on (L.invariant.2 E h)
-            (rw w.taken-is (trying_taken _ _ _ E _ L.i L.taken c.loop-i-test.true (sym c.op_of.ensures ∙ w.if-op_of-eq10.true)
-            (sym w.op_of-then-op_of-eq10.ensures ∙ w.if-op_of-ne9.false) ((w.try_arm-a.ensures E h).fine w.in_default.is)))
-        | else-op_of-eq10 w ↦ leads_on (L.invariant.2 E h)
-            (leads_same (rw w.taken-is (trying_skip _ _ _ E _ L.i L.taken c.loop-i-test.true (λ z. w.if-op_of-eq10.false (c.op_of.ensures ∙ z)))))
+      c.if-op_of-eq-TARGET.auto.taken ∙ L.invariant.0,
+      λ E h. elim c.if-op_of-eq-TARGET.branch [
+        | then-op_of-eq-TARGET+else-op_of-ne-ARM+in_ok-try_arm w ↦ leads_on (L.invariant.1 E h)
+            (rw w.taken-is (trying_taken _ _ _ E _ L.i L.taken c.loop-i-test.true (sym c.op_of.ensures ∙ w.if-op_of-eq-TARGET.true)
+            (sym w.op_of-then-op_of-eq-TARGET.ensures ∙ w.if-op_of-ne-ARM.false) ((w.in_ok-try_arm.ensures E h).fine refl)))
+        | else-op_of-eq-TARGET w ↦ leads_on (L.invariant.1 E h)
+            (leads_same (rw w.taken-is (trying_skip _ _ _ E _ L.i L.taken c.loop-i-test.true (λ z. w.if-op_of-eq-TARGET.false (c.op_of.ensures ∙ z)))))
       ],
     )
 
@@ -95,4 +84,4 @@ pub returns : goal.returns
 returns c E h =
     let p = c.requires in
     let L = c.loop-i in
-    planned_match p.cases.is (L.invariant.2 E h) (match_sought p.accepted p.b_bound p.cases p.stated) (trying_over _ _ _ E _ L.i _ c.loop-i-test.false) each_none
+    planned_match p.cases.is (L.invariant.1 E h) (match_sought p.accepted p.b_bound p.cases p.stated) (trying_over _ _ _ E _ L.i _ c.loop-i-test.false) each_none

@@ -1,6 +1,7 @@
 -- What is left of `collect_fields` and `collect_node`: the trees that a `requires` says are there are taken apart to show what the calls ask; what
 -- is ensured are the laws of `Leads`.
 use Rattle.std.proofs.Common.{◌∙◌, ◌<◌, arith}
+use Rattle.std.proofs.lemmas.Result.{err_from_is_err_and}
 use Rattle.state.proofs.Fields.{ready_counted, ready_typed, ready_sized}
 use Rattle.collectors.proofs.Trails.{hop_keeps, keeps_then, way_first, way_next}
 use Rattle.collectors.proofs.Reading.{none_left, one_left, siblings_type, siblings_room, siblings_left, kids_siblings}
@@ -15,8 +16,8 @@ collect_fields-returns-then-ks-eq0-clause-leading_all t c =
 pub collect_fields-part_at-t-requires-clause-counted : goal.collect_fields-part_at-t-requires-clause-counted
 collect_fields-part_at-t-requires-clause-counted t c = ready_counted c.requires.ready
 
-pub collect_fields-collect_node-a-requires : goal.collect_fields-collect_node-a-requires
-collect_fields-collect_node-a-requires t c =
+pub collect_fields-collect_node-requires : goal.collect_fields-collect_node-requires
+collect_fields-collect_node-requires t c =
     let more : 0 < c.args.k.kids.count = omega arith in
     let one = one_left c.args.types.now c.args.k more c.part_at-t.ensures in
     let tree = stands_first c.requires.stand_all one c.hop-n.ensures.high in
@@ -26,43 +27,44 @@ collect_fields-collect_node-a-requires t c =
       (c.requires.ready, (siblings_type c.requires.siblings more c.part_at-t.ensures, (tree, (other, (kept, c.requires.counted))))),
     )
 
-pub collect_fields-returns-then-a-ne0-clause-keeps : goal.collect_fields-returns-then-a-ne0-clause-keeps
-collect_fields-returns-then-a-ne0-clause-keeps t c =
-    hop_keeps c.requires.long (omega (arith, c.requires.stand_all.room)) c.hop-n.ensures c.collect_node-a.ensures.keeps
+pub collect_fields-returns-in_err-a-clause-keeps : goal.collect_fields-returns-in_err-a-clause-keeps
+collect_fields-returns-in_err-a-clause-keeps t c =
+    hop_keeps c.requires.long (omega (arith, c.requires.stand_all.room)) c.hop-n.ensures c.collect_node.ensures.keeps
 
-pub collect_fields-returns-then-a-ne0-clause-leading_all : goal.collect_fields-returns-then-a-ne0-clause-leading_all
-collect_fields-returns-then-a-ne0-clause-leading_all t c =
+pub collect_fields-returns-in_err-a-clause-leading_all : goal.collect_fields-returns-in_err-a-clause-leading_all
+collect_fields-returns-in_err-a-clause-leading_all t c =
     let more : 0 < c.args.k.kids.count = omega arith in
     let one = one_left c.args.types.now c.args.k more c.part_at-t.ensures in
-    leads_refused one c.collect_node-a.ensures.leading c.if-a-ne0.true
+    let p = err_from_is_err_and c.from_residual.result c.from_residual.ensures.1 in
+    rw (p.1, p.2) (leads_refused one c.in_err-a.ensures.leading)
 
-pub collect_fields-left-k-requires : goal.collect_fields-left-k-requires
-collect_fields-left-k-requires t c = siblings_room c.requires.siblings (omega arith) c.requires.ready
+pub collect_fields-left-rest-requires : goal.collect_fields-left-rest-requires
+collect_fields-left-rest-requires t c = siblings_room c.requires.siblings (omega arith) c.requires.ready
 
 pub collect_fields-collect_fields-requires : goal.collect_fields-collect_fields-requires
 collect_fields-collect_fields-requires t c =
     let more : 0 < c.args.k.kids.count = omega arith in
     let one = one_left c.args.types.now c.args.k more c.part_at-t.ensures in
-    let next = leads_next one c.collect_node-a.ensures.leading c.if-a-ne0.false c.requires.stand_all c.requires.stand_all_2 in
-    rw c.left-k.ensures (
+    let next = leads_next one c.in_ok-a.ensures.leading c.requires.stand_all c.requires.stand_all_2 in
+    rw c.left-rest.ensures (
       omega (arith, next, c.decreases),
-      (c.requires.ready, (siblings_left c.requires.siblings more _ _, (next.0, (next.1, (long_kept c.requires.long (c.collect_node-a.auto.ops ∙ c.hop-n.auto.ops) (c.collect_node-a.auto.args ∙ c.hop-n.auto.args), next.4))))),
+      (c.requires.ready, (siblings_left c.requires.siblings more _ _, (next.0, (next.1, (long_kept c.requires.long (c.collect_node.auto.ops ∙ c.hop-n.auto.ops) (c.collect_node.auto.args ∙ c.hop-n.auto.args), next.4))))),
     )
 
 pub collect_fields-returns-clause-keeps : goal.collect_fields-returns-clause-keeps
 collect_fields-returns-clause-keeps t c =
-    let keeps = hop_keeps c.requires.long (omega (arith, c.requires.stand_all.room)) c.hop-n.ensures c.collect_node-a.ensures.keeps in
-    let rest = rw c.left-k.ensures at c.collect_fields.ensures.keeps in
+    let keeps = hop_keeps c.requires.long (omega (arith, c.requires.stand_all.room)) c.hop-n.ensures c.collect_node.ensures.keeps in
+    let rest = rw c.left-rest.ensures at c.collect_fields.ensures.keeps in
     keeps_then keeps rest
 
 pub collect_fields-returns-clause-leading_all : goal.collect_fields-returns-clause-leading_all
 collect_fields-returns-clause-leading_all t c =
     let more : 0 < c.args.k.kids.count = omega arith in
     let one = one_left c.args.types.now c.args.k more c.part_at-t.ensures in
-    let keeps = hop_keeps c.requires.long (omega (arith, c.requires.stand_all.room)) c.hop-n.ensures c.collect_node-a.ensures.keeps in
-    let rest = rw c.left-k.ensures at c.collect_fields.ensures.leading_all in
+    let keeps = hop_keeps c.requires.long (omega (arith, c.requires.stand_all.room)) c.hop-n.ensures c.collect_node.ensures.keeps in
+    let rest = rw c.left-rest.ensures at c.collect_fields.ensures.leading_all in
     let ways = way_next c.args.k 0 0 keeps in
-    leads_more one c.collect_node-a.ensures.leading c.if-a-ne0.false (way_first c.hop-n.ensures) ways rest
+    leads_more one c.in_ok-a.ensures.leading (way_first c.hop-n.ensures) ways rest
 
 pub collect_node-overflow_add-i1 : goal.collect_node-overflow_add-i1
 collect_node-overflow_add-i1 t c = omega (arith, stands_in c.requires.stands)
@@ -86,14 +88,15 @@ pub collect_node-returns-then-f2-j-eq0-clause-leading : goal.collect_node-return
 collect_node-returns-then-f2-j-eq0-clause-leading t c =
     lead_leaves (ready_typed c.requires.ready).known c.if-f1-i-eq0.true c.if-f2-j-eq0.true c.requires.counted c.reached.ensures
 
-pub collect_node-returns-then-a-ne0-clause-leading : goal.collect_node-returns-then-a-ne0-clause-leading
-collect_node-returns-then-a-ne0-clause-leading t c =
-    lead_refused (ready_typed c.requires.ready).known c.if-f1-i-eq0.true c.unfolds_node-a.ensures.opening c.if-a-ne0.true
+pub collect_node-returns-in_err-a-clause-leading : goal.collect_node-returns-in_err-a-clause-leading
+collect_node-returns-in_err-a-clause-leading t c =
+    let p = err_from_is_err_and c.from_residual.result c.from_residual.ensures.1 in
+    rw (p.1, p.2) (lead_refused (ready_typed c.requires.ready).known c.if-f1-i-eq0.true c.in_err-a.ensures.opening)
 
 pub collect_node-returns-then-f1-i-eq0-clause-leading : goal.collect_node-returns-then-f1-i-eq0-clause-leading
 collect_node-returns-then-f1-i-eq0-clause-leading t c =
-    let told = lead_open (ready_typed c.requires.ready).known c.if-f1-i-eq0.true c.unfolds_node-a.ensures.opening in
-    told c.if-a-ne0.false c.reached-then-f1-i-eq0.ensures
+    let told = lead_open (ready_typed c.requires.ready).known c.if-f1-i-eq0.true c.in_ok-a.ensures.opening in
+    told c.reached-then-f1-i-eq0.ensures
 
 pub collect_node-offset_bounds-f2-j-2 : goal.collect_node-offset_bounds-f2-j-2
 collect_node-offset_bounds-f2-j-2 t c = omega (arith, stands_in c.requires.stands_2)
@@ -114,25 +117,25 @@ collect_node-bounds-w2-j t c = omega (arith, stands_in c.requires.stands_2)
 
 pub collect_node-returns-then-w-w2-clause-leading : goal.collect_node-returns-then-w-w2-clause-leading
 collect_node-returns-then-w-w2-clause-leading t c =
-    lead_apart c.if-f1-i-eq0.false c.if-f2-j-eq0-2.false c.if-w-w2.true c.refuse.ensures
+    lead_apart c.if-f1-i-eq0.false c.if-f2-j-eq0-2.false c.if-w-w2.true
 
 pub collect_node-kids_of-requires-clause-openable : goal.collect_node-kids_of-requires-clause-openable
 collect_node-kids_of-requires-clause-openable t c = stands_openable c.requires.stands c.if-f1-i-eq0.false
 
-pub collect_node-kind_of-requires-clause-sized : goal.collect_node-kind_of-requires-clause-sized
-collect_node-kind_of-requires-clause-sized t c = ready_sized c.requires.ready
+pub collect_node-kind_at-requires-clause-sized : goal.collect_node-kind_at-requires-clause-sized
+collect_node-kind_at-requires-clause-sized t c = ready_sized c.requires.ready
 
 pub collect_node-collect_fields-requires : goal.collect_node-collect_fields-requires
 collect_node-collect_fields-requires t c =
     let all = c.kids_of.ensures.all in
     let tree = stands_below c.requires.stands c.if-f1-i-eq0.false in
     let other = rw (← c.if-w-w2.false) at (stands_below c.requires.stands_2 c.if-f2-j-eq0-2.false) in
-    let small : c.wide16.result < 65536 = omega (arith, c.wide16.ensures, c.type_inv.w1 c.args.c.first) in (
+    let small : c.from.result < 65536 = omega (arith, c.from.ensures, c.type_inv.w1 c.args.c.first) in (
       omega (arith, stands_in c.requires.stands, c.decreases),
       (c.requires.ready, (kids_siblings c.kids_of.ensures c.requires.ready small, (rw all tree, (rw all other, (c.requires.long, c.requires.counted))))),
     )
 
 pub collect_node-returns-clause-leading : goal.collect_node-returns-clause-leading
 collect_node-returns-clause-leading t c =
-    let told = lead_below c.if-f1-i-eq0.false c.if-f2-j-eq0-2.false c.if-w-w2.false in
-    told c.kids_of.ensures.all c.kind_of.ensures c.wide16.ensures c.collect_fields.ensures.leading_all
+    let told = lead_below c.if-f1-i-eq0.false c.if-f2-j-eq0-2.false (ready_typed c.requires.ready).known c.if-w-w2.false in
+    told c.kids_of.ensures.all c.kind_at.ensures c.from.ensures c.collect_fields.ensures.leading_all

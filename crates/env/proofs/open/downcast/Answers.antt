@@ -1,6 +1,5 @@
 -- `env::open::downcast` meets its contract: a downcast is the last step. Assumes nothing.
 use mathlib.Core.Path.{refl}
-use native.Mathlib.Omega.{arith}
 use lib.ListN.{length}
 use Rattle.model.specs.Place.{unfold_ok}
 use Rattle.model.specs.Block.{elem_of}
@@ -11,7 +10,7 @@ use Rattle.env.proofs.open.downcast.Goals as goal
 pub open_last-requires : goal.open_last-requires
 unfolding elem_of
 open_last-requires c =
-    let n = length c.args.locals.now in record { asked = (c.requires.0, (c.requires.1.0, given_also c.requires.1.1 (unfold_ok n) (used_unfolds n))); staying = record { some = λ z. omega arith; stays = refl } }
+    let n = length c.args.locals.now in record { asked = (c.requires.0, (c.requires.1.0, given_also c.requires.1.1 (unfold_ok n) (used_unfolds n))); staying = refl }
 
 pub returns : goal.returns
 returns c =

@@ -8,6 +8,3 @@ pub used-requires : goal.used-requires
 used-requires c =
     let n = length c.args.locals.now in
     (c.requires.0, (c.requires.1.0, given_also c.requires.1.1 (fold_ok n) (used_folds n)))
-
-pub returns : goal.returns
-returns c = c.used.ensures

@@ -2,6 +2,7 @@
 -- second, and both are model's.
 use mathlib.Core.Path.{refl}
 use Prim.Native.Nat.{ℕ}
+use Rattle.std.proofs.lemmas.Result.{err_from_is_err_and}
 use native.Mathlib.Omega.{arith}
 use lib.ListN.{length-replicate}
 use Rattle.fold_unfold.specs.Runs.{blank, again}
@@ -12,8 +13,8 @@ use Rattle.fold_unfold.proofs.run.analyse.Goals as goal
 pub invert-requires : goal.invert-requires
 invert-requires c = record { formed = c.requires.accepted.formed; in_bounds = omega arith }
 
-pub run-v-requires : goal.run-v-requires
-run-v-requires c =
+pub run-requires : goal.run-requires
+run-requires c =
     let p = c.requires in
     record {
       accepted = p.accepted;
@@ -23,22 +24,24 @@ run-v-requires c =
       begins = record { memory = blank; is = zeros_remembered p.wiped p.store_long; starts = refl; goes = first_sound (records_pass p.accepted) };
     }
 
-pub returns-in_default : goal.returns-in_default
-returns-in_default c = first_stops (c.run-v.ensures blank refl (zeros_remembered c.requires.wiped c.requires.store_long)) c.in_default.is
+pub returns-in_err-run : goal.returns-in_err-run
+returns-in_err-run c =
+    let r = err_from_is_err_and c.from_residual.result c.from_residual.ensures.1 in
+    rw (r.1, r.2) (first_stops (c.in_err-run.ensures blank refl (zeros_remembered c.requires.wiped c.requires.store_long)))
 
-pub run-requires : goal.run-requires
-run-requires c =
+pub run-requires-2 : goal.run-requires-2
+run-requires-2 c =
     let p = c.requires in
     record {
       accepted = p.accepted;
       shared = p.shared;
       inverted = c.invert.ensures;
-      in_bounds = omega (arith, c.run-v.auto.memo, length-replicate {A = ℕ} 512 0);
-      begins = second_begins (first_goes (c.run-v.ensures blank refl (zeros_remembered p.wiped p.store_long)) c.in-Over.is) (records_pass p.accepted);
+      in_bounds = omega (arith, c.run.auto.memo, length-replicate {A = ℕ} 512 0);
+      begins = second_begins (first_goes (c.in_ok-run.ensures blank refl (zeros_remembered p.wiped p.store_long))) (records_pass p.accepted);
     }
 
 pub returns : goal.returns
 returns c =
-    let E = c.run-v.ensures blank refl (zeros_remembered c.requires.wiped c.requires.store_long) in
-    let H = first_goes E c.in-Over.is in
-    second_ends H (c.run.ensures (again H.memory.kept) (H.memory.kept, refl, H.inferred) H.remembers) E.same_forms E.same_whats E.same_out
+    let E = c.in_ok-run.ensures blank refl (zeros_remembered c.requires.wiped c.requires.store_long) in
+    let H = first_goes E in
+    second_ends H (c.run-2.ensures (again H.memory.kept) (H.memory.kept, refl, H.inferred) H.remembers) E.same_forms E.same_whats E.same_out

@@ -1,11 +1,10 @@
 -- `fold_unfold::run::invert` meets its contract. The loop's invariant: the ranks of the blocks before b have their blocks.
-use borrow.Author.Rules.{rules}
-use mathlib.Core.Path.{refl, sym, ap, ◌∙◌}
+use mathlib.Core.Path.{sym, ap, ◌∙◌}
 use mathlib.Core.List.{List}
 use Prim.Native.Nat.{ℕ, ◌+◌, ◌≤◌, ◌<◌}
 use native.Mathlib.Decide.{ℕ_discrete}
 use native.Mathlib.Omega.{arith}
-use lib.ListN.{length, set, length-set}
+use lib.ListN.{length, set}
 use lib.Seq.{get_or-set_same, get_or-set_other}
 use Rattle.model.specs.Words.{word}
 use Rattle.model.specs.Function.{rank}
@@ -25,40 +24,33 @@ named_next r n blocks b R l h N c k = elim (ℕ_discrete c b) [
 ]
 
 pub loop-b-init : goal.loop-b-init
-loop-b-init c = (search rules, refl, λ d l. absurd (omega arith))
+loop-b-init c = λ d l. absurd (omega arith)
 
-pub rank_of-r-requires : goal.rank_of-r-requires
-rank_of-r-requires c = record { laid = c.requires.formed.laid; b_bound = omega (arith, c.nblocks-n.ensures) }
+pub offset_bounds-blocks-rank_of : goal.offset_bounds-blocks-rank_of
+offset_bounds-blocks-rank_of c =
+    let R = facts_ranking (formed_accepted c.requires.formed) in
+    record { fits = omega (arith, c.rank_of.ensures, R.few, R.below c.loop-b.b (omega (arith, c.nblocks-b-end.ensures))) }
+
+pub bounds-blocks-rank_of : goal.bounds-blocks-rank_of
+bounds-blocks-rank_of c =
+    let R = facts_ranking (formed_accepted c.requires.formed) in
+    omega (arith, c.rank_of.ensures, R.few, R.below c.loop-b.b (omega (arith, c.nblocks-b-end.ensures)), c.requires.in_bounds)
 
 pub overflow_cast-blocks : goal.overflow_cast-blocks
 overflow_cast-blocks c =
     let R = facts_ranking (formed_accepted c.requires.formed) in
-    record { fits = omega (arith, c.nblocks-n.ensures, R.few) }
-
-pub offset_bounds-blocks-r : goal.offset_bounds-blocks-r
-offset_bounds-blocks-r c =
-    let R = facts_ranking (formed_accepted c.requires.formed) in
-    record { fits = omega (arith, c.rank_of-r.ensures, R.few, R.below c.loop-b.b (omega (arith, c.nblocks-n.ensures))) }
-
-pub bounds-blocks-r : goal.bounds-blocks-r
-bounds-blocks-r c =
-    let R = facts_ranking (formed_accepted c.requires.formed) in
-    omega (arith, c.rank_of-r.ensures, R.few, R.below c.loop-b.b (omega (arith, c.nblocks-n.ensures)), c.requires.in_bounds, c.loop-b.invariant.1)
+    record { fits = omega (arith, c.nblocks-b-end.ensures, R.few) }
 
 pub loop-b-preserved : goal.loop-b-preserved
 loop-b-preserved c =
     let R = facts_ranking (formed_accepted c.requires.formed) in
-    let n = c.nblocks-n.ensures in
-    let q = c.requires.in_bounds in (
-      search rules,
-      length-set c.loop-b.blocks _ _ ∙ c.loop-b.invariant.1,
-      rw c.rank_of-r.ensures (named_next (rank c.args.fun.now) _ c.loop-b.blocks c.loop-b.b R (omega (arith, n)) (omega (arith, R.few, q, c.loop-b.invariant.1)) c.loop-b.invariant.2),
-    )
+    let n = c.nblocks-b-end.ensures in
+    rw c.rank_of.ensures (named_next (rank c.args.fun.now) _ c.loop-b.blocks c.loop-b.b R (omega (arith, n)) (omega (arith, R.few, c.requires.in_bounds)) c.loop-b.invariant)
 
 pub returns : goal.returns
 returns c =
     let R = facts_ranking (formed_accepted c.requires.formed) in
     record {
-      long = omega (arith, R.few, c.requires.in_bounds, c.loop-b.invariant.1);
-      block = λ d l. c.loop-b.invariant.2 d (omega (arith, c.nblocks-n.ensures));
+      long = omega (arith, R.few, c.requires.in_bounds);
+      block = λ d l. c.loop-b.invariant d (omega (arith, c.nblocks-b-end.ensures));
     }

@@ -1,38 +1,31 @@
--- `join::trees::join_locals` meets its contract: the invariant at its start, in each round and at its end.
-use Rattle.std.proofs.Common.{◌<◌, length, arith}
+-- `join::trees::join_locals` meets its contract: the invariant in each round and at the end.
+use Rattle.std.proofs.Common.{refl, arith}
 use Rattle.base.specs.Typed.{locals_typed}
-use Rattle.join.proofs.Passing.{passed_none, passed_all, local_first, local_second, passed_full, passed_more}
+use Rattle.join.proofs.Passing.{passed_all, local_first, local_second, passed_full, passed_more}
 use Rattle.join.proofs.trees.join_locals.Goals as goal
+use Rattle.join.proofs.trees.join_locals.Goals.{then-changed, else-changed}
 
-pub loop-l-init : goal.loop-l-init
-loop-l-init c =
-    (omega arith, omega arith, passed_none c.requires.room c.requires.heres c.requires.heres_2 c.reached-e.ensures)
+pub join_node-requires-clause-t_bound : goal.join_node-requires-clause-t_bound
+join_node-requires-clause-t_bound c =
+    (locals_typed c.args.types.now c.args.locals.now c.requires.locals_value).below c.loop-t.t-index c.loop-t-test.true
 
-pub join_node-a-requires : goal.join_node-a-requires
-join_node-a-requires c =
-    let w = c.wide-t.ensures in
-    let L = c.loop-l.invariant.2 in
-    let h : c.loop-l.l < length c.args.locals.now = omega arith in
-    record {
-      ready = c.requires.ready;
-      t_bound = rw w ((locals_typed c.args.types.now c.args.locals.now c.requires.locals_value).below c.loop-l.l h);
-      here = rw w (local_first L h);
-      here_2 = rw w (local_second L h);
-      room = L.room;
-    }
+pub join_node-requires-clause-here : goal.join_node-requires-clause-here
+join_node-requires-clause-here c = local_first c.loop-t.invariant c.loop-t-test.true
 
-pub returns-then-a : goal.returns-then-a
-returns-then-a c =
-    passed_full c.loop-l.invariant.2 (omega arith) (rw c.wide-t.ensures at c.join_node-a.ensures) c.if-a.true c.overfull.ensures
+pub join_node-requires-clause-here_2 : goal.join_node-requires-clause-here_2
+join_node-requires-clause-here_2 c = local_second c.loop-t.invariant c.loop-t-test.true
 
-pub loop-l-preserved : goal.loop-l-preserved
-loop-l-preserved c =
-    let R = c.loop-l.invariant.2.room in
-    let h : c.loop-l.l < length c.args.locals.now = omega arith in (
-      omega arith,
-      c.loop-l.invariant.1,
-      passed_more c.loop-l.invariant.2 h (rw c.wide-t.ensures at c.join_node-a.ensures) c.if-a.false (omega (arith, R.forms)) (omega (arith, R.whats)) (rw c.either.ensures at c.reached-e-in-loop-l.ensures),
-    )
+pub returns-in_err-a : goal.returns-in_err-a
+returns-in_err-a c = rw c.from_residual.ensures (passed_full c.loop-t.invariant c.loop-t-test.true c.in_err-a.ensures)
+
+pub loop-t-preserved : goal.loop-t-preserved
+loop-t-preserved c =
+    let R = c.loop-t.invariant.room in
+    passed_more c.loop-t.invariant c.loop-t-test.true c.in_ok-a.ensures (omega (arith, R.forms)) (omega (arith, R.whats))
+    (elim c.if-changed.branch [
+      | then-changed w ↦ rw (w.changed-is, w.if-changed.true) refl
+      | else-changed w ↦ rw (w.changed-is, w.if-changed.false) refl
+    ])
 
 pub returns : goal.returns
-returns c = passed_all c.loop-l.invariant.2 (omega arith)
+returns c = passed_all c.loop-t.invariant (omega arith)

@@ -8,7 +8,6 @@ use borrow.Author.Tests.{eqb-true, eqb-false, eq-eqb}
 use Rattle.model.specs.Types.{ntypes, kind, offset, part}
 use Rattle.base.specs.Tests.{and_left, and_right}
 use Rattle.base.specs.Typed.{types_typed}
-use Rattle.type_record.proofs.Inside.{ok_counted}
 use Rattle.moved.specs.Merged.{moved_value, moved_type}
 use Rattle.moved.specs.Passing.{part_type}
 use Rattle.merge.proofs.write.moved_part.Goals as goal
@@ -20,13 +19,6 @@ module _ (k j : ℕ) where
 
   no_value : eqb k 8 && eqb j 0 ≡ false → k ≡ 8 → 1 ≤ j
   no_value e h = let z = eqb-false j 0 (cc (eq-eqb k 8 h)) in omega arith
-
-pub part_at-p-requires : goal.part_at-p-requires
-part_at-p-requires c =
-    let p = c.requires in record { counted = ok_counted c.args.types.now p.ready.typed; offsets = p.ready.offsets; t_bound = p.t_bound; j_bound = p.j_bound }
-
-pub is_value-requires : goal.is_value-requires
-is_value-requires c = record { sized = (ok_counted c.args.types.now c.requires.ready.typed).sized; t_bound = c.requires.t_bound }
 
 -- a word
 pub returns-then-is_value : goal.returns-then-is_value
@@ -47,8 +39,8 @@ overflow_add-n c =
     let k = no_value (kind c.args.types.now c.args.t) c.args.j (sym c.is_value.ensures ∙ c.if-is_value.false) in
     omega (arith, c.part_at-p.ensures, part_type g c.args.t c.args.j c.requires.t_bound c.requires.j_bound k, g.few, c.requires)
 
-pub returns : goal.returns
-returns c =
+pub returns-else-is_value : goal.returns-else-is_value
+returns-else-is_value c =
     let g = types_typed c.args.types.now c.requires.ready.typed in
     let k = no_value (kind c.args.types.now c.args.t) c.args.j (sym c.is_value.ensures ∙ c.if-is_value.false) in
-    omega (arith, c.small-2.ensures, c.part_at-p.ensures, part_type g c.args.t c.args.j c.requires.t_bound c.requires.j_bound k, g.few, c.requires, moved_type c.args.n c.args.types.now c.args.t c.args.j k)
+    omega (arith, c.small-else-is_value.ensures, c.part_at-p.ensures, part_type g c.args.t c.args.j c.requires.t_bound c.requires.j_bound k, g.few, c.requires, moved_type c.args.n c.args.types.now c.args.t c.args.j k)

@@ -1,14 +1,8 @@
 -- `merge::write::put_parts` meets its contract. The loop's invariant: the parts below j stand there. Assumes nothing.
 use mathlib.Core.Path.{◌≡◌}
-use Prim.Native.Nat.{◌-◌, ◌≤◌}
-use lib.ListN.{length}
 use lib.Seq.{sets}
-use Rattle.model.specs.Types.{count}
 use Rattle.model.specs.Merge.{moved_parts}
 use Rattle.merge.proofs.write.put_parts.Given as goal
 
 abbrev pub invariant-loop-j : goal.invariant-loop-j
-invariant-loop-j l = (l.c ≡ count l.types l.t) × (l.j ≤ l.c) × (length l.out ≡ length l.initial.out) × (l.out ≡ sets l.initial.out l.at (moved_parts l.n l.types l.t l.j))
-
-abbrev pub decreases-loop-j : goal.decreases-loop-j
-decreases-loop-j l = l.c - l.j
+invariant-loop-j l = l.out ≡ sets l.initial.out l.at (moved_parts l.n l.types l.t l.j)

@@ -9,8 +9,8 @@ returns-in-1 c =
     let a = c.args in
     behind use_rows a.before a.next (omega arith, omega arith) c.in-1.is
 
-pub returns-in_default-before : goal.returns-in_default-before
-returns-in_default-before c =
+pub returns-in_default-matches : goal.returns-in_default-matches
+returns-in_default-matches c =
     let a = c.args in
     elsewhere use_rows a.before a.next (omega arith, omega arith) (⊎_elim (grind arith) (grind arith))
 

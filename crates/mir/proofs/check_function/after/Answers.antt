@@ -1,13 +1,8 @@
 -- `mir::check_function::after` meets its contract, by the groups of items. Assumes nothing.
-use mathlib.Core.Path.{◌∙◌, sym, ap}
+use mathlib.Core.Path.{sym}
 use native.Mathlib.Omega.{arith}
-use Rattle.model.specs.Function.{after}
 use Rattle.mir.proofs.Follows.{after_place}
 use Rattle.mir.proofs.check_function.after.Goals as goal
-
-pub returns-in-0 : goal.returns-in-0
-returns-in-0 c =
-    c.after_root.ensures ∙ ap (after c.args.before) (sym c.in-0.is)
 
 pub returns-in-1-to-4 : goal.returns-in-1-to-4
 returns-in-1-to-4 c =

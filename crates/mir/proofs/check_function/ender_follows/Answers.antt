@@ -24,13 +24,13 @@ returns-in-2 c =
     let a = c.args in
     behind switch_rows a.before a.next (omega arith, omega arith) (two 2 a.before (omega arith) (omega arith))
 
-pub returns-in_default-before : goal.returns-in_default-before
-returns-in_default-before c =
+pub returns-in_default-matches : goal.returns-in_default-matches
+returns-in_default-matches c =
     let a = c.args in
     elsewhere switch_rows a.before a.next (omega arith, omega arith) (neither 2 a.before (inl (omega arith)))
 
-pub returns-in_default-before-3 : goal.returns-in_default-before-3
-returns-in_default-before-3 c =
+pub returns-in_default-matches-3 : goal.returns-in_default-matches-3
+returns-in_default-matches-3 c =
     let a = c.args in
     elsewhere switch_rows a.before a.next (omega arith, omega arith) (neither 2 a.before (inr (omega arith)))
 
@@ -39,23 +39,23 @@ returns-in-9 c =
     let a = c.args in
     stands arm_rows a.before a.next (omega arith, omega arith)
 
-pub returns-in_default-before-2 : goal.returns-in_default-before-2
-returns-in_default-before-2 c =
+pub returns-in_default-matches-2 : goal.returns-in_default-matches-2
+returns-in_default-matches-2 c =
     let a = c.args in
     elsewhere target_rows a.before a.next (omega arith, omega arith) (⊎_elim (grind arith) (neither 6 a.before (inl (omega arith))))
 
-pub returns-in_default-before-2-2 : goal.returns-in_default-before-2-2
-returns-in_default-before-2-2 c =
+pub returns-in_default-matches-2-2 : goal.returns-in_default-matches-2-2
+returns-in_default-matches-2-2 c =
     let a = c.args in
     elsewhere target_rows a.before a.next (omega arith, omega arith) (⊎_elim (grind arith) (neither 6 a.before (inr (omega arith))))
 
-pub returns-in-2-before : goal.returns-in-2-before
-returns-in-2-before c =
+pub returns-in-2-matches : goal.returns-in-2-matches
+returns-in-2-matches c =
     let a = c.args in
     behind target_rows a.before a.next (omega arith, omega arith) (inl (omega arith))
 
-pub returns-in-2-before-2 : goal.returns-in-2-before-2
-returns-in-2-before-2 c =
+pub returns-in-2-matches-2 : goal.returns-in-2-matches-2
+returns-in-2-matches-2 c =
     let a = c.args in
     behind target_rows a.before a.next (omega arith, omega arith) (inr (two 6 a.before (omega arith) (omega arith)))
 

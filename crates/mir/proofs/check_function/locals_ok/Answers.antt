@@ -1,59 +1,27 @@
--- `mir::check_function::locals_ok` meets its contract. The loop has tested every local below l. Assumes nothing.
-use mathlib.Core.Path.{◌≡◌, ◌∙◌, sym}
-use mathlib.Core.Bool.{false}
+-- `mir::check_function::locals_ok` meets its contract: each local is tested. Assumes nothing.
+use mathlib.Core.Path.{◌≡◌}
+use mathlib.Core.Bool.{Bool, true, false}
 use mathlib.Core.List.{List}
-use Prim.Native.Nat.{ℕ, ◌≤◌, ◌<◌}
-use native.Mathlib.Omega.{arith}
-use lib.ListN.{length}
+use Prim.Native.Nat.{ℕ, ◌≤◌}
+use lib.ListN.{length, get_or}
 use borrow.Author.Rules.{rules}
-use borrow.Author.Tests.{le-leb, lt-leb}
+use borrow.Author.Tests.{le-leb}
+use Rattle.std.proofs.lemmas.Iterator.{cases_from_all, YieldsList-from_slice}
 use Rattle.model.specs.Words.{all}
 use Rattle.model.specs.State.{local_ok, locals_ok}
-use Rattle.base.specs.Below.{all_fails}
 use Rattle.mir.specs.Parts.{type_usable}
-use Rattle.mir.proofs.Each.{all_none, all_next, all_done}
+use Rattle.mir.proofs.Each.{all_read}
 use Rattle.mir.proofs.check_function.locals_ok.Goals as goal
 
-module _ (Γ locals : List ℕ) where
-  locals_none : length locals < 1 → locals_ok Γ locals ≡ false
-  unfolding locals_ok
-  locals_none h = rw (lt-leb 1 (length locals) h)
+-- with their number within its limits, the locals decide
+decides : (Γ locals : List ℕ) (r : Bool) → 1 ≤ length locals → length locals ≤ 256 → r ≡ all (λ i. type_usable Γ (get_or locals i 0)) (length locals) → r ≡ locals_ok Γ locals
+unfolding locals_ok local_ok type_usable
+decides Γ locals r h l e = rw (le-leb 1 (length locals) h, le-leb (length locals) 256 l) e
 
-  locals_many : 256 < length locals → locals_ok Γ locals ≡ false
-  unfolding locals_ok
-  locals_many h = rw (le-leb 1 (length locals) (omega arith), lt-leb (length locals) 256 h)
-
-  locals_each : 1 ≤ length locals → length locals ≤ 256 → locals_ok Γ locals ≡ all (local_ok Γ locals) (length locals)
-  unfolding locals_ok
-  locals_each h l = rw (le-leb 1 (length locals) h, le-leb (length locals) 256 l)
-
-pub returns-then-n-lt1 : goal.returns-then-n-lt1
-returns-then-n-lt1 c =
-    let a = c.args in sym (locals_none a.types.now a.locals.now c.if-n-lt1.true)
-
-pub returns-then-n-gt-MOST_LOCALS : goal.returns-then-n-gt-MOST_LOCALS
-returns-then-n-gt-MOST_LOCALS c =
-    let a = c.args in sym (locals_many a.types.now a.locals.now c.if-n-gt-MOST_LOCALS.true)
-
-pub loop-l-init : goal.loop-l-init
-loop-l-init c =
-    let a = c.args in (search rules, all_none (local_ok a.types.now a.locals.now))
-
-pub returns-then-not-local_ok : goal.returns-then-not-local_ok
-unfolding local_ok type_usable
-returns-then-not-local_ok c =
+pub returns-then-locals-le-MOST_LOCALS : goal.returns-then-locals-le-MOST_LOCALS
+returns-then-locals-le-MOST_LOCALS c =
     let a = c.args in
-    let e = sym c.local_ok.ensures ∙ c.if-not-local_ok.true in
-    sym (locals_each a.types.now a.locals.now (omega arith) (omega arith) ∙ all_fails (local_ok a.types.now a.locals.now) (length a.locals.now) c.loop-l.l (omega arith) e)
-
-pub loop-l-preserved : goal.loop-l-preserved
-unfolding local_ok type_usable
-loop-l-preserved c =
-    let a = c.args in
-    let e = sym c.local_ok.ensures ∙ c.if-not-local_ok.false in
-    (search rules, all_next (local_ok a.types.now a.locals.now) c.loop-l.invariant.1 e)
-
-pub returns : goal.returns
-returns c =
-    let a = c.args in
-    sym (locals_each a.types.now a.locals.now (omega arith) (omega arith) ∙ all_done (local_ok a.types.now a.locals.now) c.loop-l.invariant.1 (omega arith) (omega arith))
+    let h = c.if-locals-le-MOST_LOCALS.true in
+    decides _ _ _ h.0 h.1
+    (all_read (type_usable a.types.now) a.locals.now c.all.result
+    (cases_from_all _ _ _ (λ t. type_usable a.types.now t ≡ true) (λ t. type_usable a.types.now t ≡ false) c.all.ensures.ran (YieldsList-from_slice a.locals.now cc) (λ x q k. search rules) (λ x q k. search rules)))

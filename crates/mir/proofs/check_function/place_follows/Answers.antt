@@ -4,13 +4,13 @@ use native.Mathlib.Omega.{arith}
 use Rattle.mir.proofs.Follows.{behind, elsewhere, root_rows, element_rows}
 use Rattle.mir.proofs.check_function.place_follows.Goals as goal
 
-pub returns-in-0-before : goal.returns-in-0-before
-returns-in-0-before c =
+pub returns-in-0-matches : goal.returns-in-0-matches
+returns-in-0-matches c =
     let a = c.args in
-    behind root_rows a.before a.next (omega arith, omega arith) c.in-0-before.is
+    behind root_rows a.before a.next (omega arith, omega arith) c.in-0-matches.is
 
-pub returns-in_default-before : goal.returns-in_default-before
-returns-in_default-before c =
+pub returns-in_default-matches : goal.returns-in_default-matches
+returns-in_default-matches c =
     let a = c.args in
     elsewhere root_rows a.before a.next (omega arith, omega arith) (⊎_elim (grind arith) (⊎_elim (grind arith) (grind arith)))
 
@@ -19,7 +19,7 @@ returns-in-1 c =
     let a = c.args in
     behind element_rows a.before a.next (omega arith, omega arith) c.in-1.is
 
-pub returns-in_default-before-2 : goal.returns-in_default-before-2
-returns-in_default-before-2 c =
+pub returns-in_default-matches-2 : goal.returns-in_default-matches-2
+returns-in_default-matches-2 c =
     let a = c.args in
     elsewhere element_rows a.before a.next (omega arith, omega arith) (⊎_elim (grind arith) (⊎_elim (grind arith) (grind arith)))

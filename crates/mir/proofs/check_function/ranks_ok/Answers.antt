@@ -1,6 +1,6 @@
 -- `mir::check_function::ranks_ok` meets its contract. The loop has tested every block below b, and seen marks their ranks. Assumes nothing.
 use mathlib.Core.Path.{◌≡◌, refl, ◌∙◌, sym, ap}
-use mathlib.Core.Bool.{false, not, ◌&&◌}
+use mathlib.Core.Bool.{Bool, true, false, not, ◌&&◌}
 use mathlib.Core.List.{List}
 use Prim.Native.Nat.{ℕ, ◌+◌, ◌≤◌, ◌<◌}
 use native.Mathlib.Numerals.{add-one}
@@ -9,13 +9,12 @@ use native.Mathlib.Omega.{arith}
 use lib.Dec.{eqb}
 use lib.ListN.{length, get_or, set, get_or-replicate, length-set}
 use lib.Seq.{get_or-set_same, get_or-set_other}
-use borrow.Author.Rules.{rules}
 use borrow.Author.Tests.{lt-ltb, le-ltb, eq-eqb, ne_eqb}
 use Rattle.model.specs.Words.{all}
 use Rattle.model.specs.Function.{nblocks, rank, ranks_ok}
 use Rattle.base.specs.Below.{all_fails}
 use Rattle.base.specs.Tests.{split}
-use Rattle.mir.proofs.Each.{all_none, all_next, all_done}
+use Rattle.type_record.proofs.Turns.{all_none, all_next, all_done}
 use Rattle.mir.proofs.check_function.ranks_ok.Invariants.{Marks, ranked, unseen}
 use Rattle.mir.proofs.check_function.ranks_ok.Goals as goal
 
@@ -39,57 +38,48 @@ module _ (fn : List ℕ) (b : ℕ) where
   unseen_next r = rw (add-one b)
 
   -- its rank is marked
-  marks_next : (seen : List ℕ) → length seen ≡ 256 → rank fn b < 256 → Marks fn b seen → Marks fn (b + 1) (set seen (rank fn b) 1)
+  marks_next : (seen : List Bool) → length seen ≡ 256 → rank fn b < 256 → Marks fn b seen → Marks fn (b + 1) (set seen (rank fn b) true)
   marks_next seen n k m r h =
       elim (ℕ_discrete r (rank fn b)) [
         | yes e ↦
-            let gone : eqb (get_or (set seen (rank fn b) 1) r 0) 0 ≡ false =
-            ap (λ (j : ℕ). eqb (get_or (set seen (rank fn b) 1) j 0) 0) e ∙ ap (λ (x : ℕ). eqb x 0) (get_or-set_same seen (rank fn b) 1 0 (omega arith)) in
+            let gone : not (get_or (set seen (rank fn b) true) r false) ≡ false =
+            ap (λ (j : ℕ). not (get_or (set seen (rank fn b) true) j false)) e ∙ ap not (get_or-set_same seen (rank fn b) true false (omega arith)) in
             gone ∙ sym (unseen_next r ∙ rw (eq-eqb (rank fn b) r (sym e)) (split (unseen fn b r) (λ d. rw d) (λ d. rw d)))
         | no e ↦
-            ap (λ (x : ℕ). eqb x 0) (get_or-set_other seen (rank fn b) r 1 0 e)
+            ap not (get_or-set_other seen (rank fn b) r true false e)
             ∙ m r h
             ∙ sym (unseen_next r ∙ rw (ne_eqb (rank fn b) r (λ d. e (sym d))) (split (unseen fn b r) (λ d. rw d) (λ d. rw d)))
       ]
 
   -- the mark of its rank, one of 256, says whether that was seen
-  met : (r : ℕ) (seen : List ℕ) → Marks fn b seen → r ≡ rank fn b → r < 256 → r < nblocks fn → eqb (get_or seen r 0) 0 ≡ ranked fn b
-  met r seen m e k h = m r k ∙ ap (unseen fn b) e ∙ sym (ranked_fresh (omega arith))
+  met : (r : ℕ) (seen : List Bool) {x : Bool} → Marks fn b seen → r ≡ rank fn b → r < 256 → r < nblocks fn → get_or seen r false ≡ x → ranked fn b ≡ not x
+  met r seen m e k h d = ranked_fresh (omega arith) ∙ sym (ap (unseen fn b) e) ∙ sym (m r k) ∙ ap not d
 
 pub loop-b-init : goal.loop-b-init
 unfolding unseen all
-loop-b-init c =
-    (search rules, refl, all_none (ranked c.args.fun.now), λ r h. ap (λ (x : ℕ). eqb x 0) (get_or-replicate 256 r 0 0 h))
+loop-b-init c = (refl, all_none (ranked c.args.fun.now), λ r h. ap not (get_or-replicate 256 r false false h))
 
 pub returns-then-n-r : goal.returns-then-n-r
 returns-then-n-r c =
     let fn = c.args.fun.now in
     sym (ranks_are fn ∙ all_fails (ranked fn) (nblocks fn) c.loop-b.b (omega arith) (ranked_past fn c.loop-b.b (omega arith)))
 
-pub bounds-seen-r : goal.bounds-seen-r
-bounds-seen-r c =
-    omega (arith, c.requires.most_blocks, c.loop-b.invariant.1)
-
-pub returns-then-seen-r-ne0 : goal.returns-then-seen-r-ne0
-returns-then-seen-r-ne0 c =
+pub returns-then-seen-r : goal.returns-then-seen-r
+returns-then-seen-r c =
     let fn = c.args.fun.now in
-    sym (ranks_are fn ∙ all_fails (ranked fn) (nblocks fn) c.loop-b.b (omega arith) (sym (met fn c.loop-b.b c.rank_of-r.result c.loop-b.seen c.loop-b.invariant.3 c.rank_of-r.ensures (omega (arith, c.requires.most_blocks)) (omega arith)) ∙ ne_eqb _ 0 c.if-seen-r-ne0.true))
-
-pub bounds-seen-r-in-loop-b : goal.bounds-seen-r-in-loop-b
-bounds-seen-r-in-loop-b c =
-    omega (arith, c.requires.most_blocks, c.loop-b.invariant.1)
+    sym (ranks_are fn ∙ all_fails (ranked fn) (nblocks fn) c.loop-b.b (omega arith) (met fn _ _ c.loop-b.seen c.loop-b.invariant.2 c.rank_of-r.ensures (omega (arith, c.requires.most_blocks)) (omega arith) c.if-seen-r.true))
 
 pub loop-b-preserved : goal.loop-b-preserved
 loop-b-preserved c =
     let fn = c.args.fun.now in
+    let i = c.loop-b.invariant in
     let e = c.rank_of-r.ensures in (
-      omega arith,
-      length-set c.loop-b.seen c.rank_of-r.result 1 ∙ c.loop-b.invariant.1,
-      all_next (ranked fn) c.loop-b.invariant.2 (sym (met fn c.loop-b.b c.rank_of-r.result c.loop-b.seen c.loop-b.invariant.3 c.rank_of-r.ensures (omega (arith, c.requires.most_blocks)) (omega arith)) ∙ eq-eqb _ 0 c.if-seen-r-ne0.false),
-      rw e (marks_next fn c.loop-b.b c.loop-b.seen c.loop-b.invariant.1 (omega (arith, c.requires.most_blocks, e)) c.loop-b.invariant.3),
+      length-set c.loop-b.seen c.rank_of-r.result true ∙ i.0,
+      all_next (ranked fn) _ i.1 (met fn _ _ c.loop-b.seen i.2 e (omega (arith, c.requires.most_blocks)) (omega arith) c.if-seen-r.false),
+      rw e (marks_next fn c.loop-b.b c.loop-b.seen i.0 (omega (arith, c.requires.most_blocks, e)) i.2),
     )
 
 pub returns : goal.returns
 returns c =
     let fn = c.args.fun.now in
-    sym (ranks_are fn ∙ all_done (ranked fn) c.loop-b.invariant.2 (omega arith) (omega arith))
+    all_done (ranked fn) (nblocks fn) c.loop-b.b (omega arith) c.loop-b.invariant.1 ∙ sym (ranks_are fn)

@@ -1,8 +1,8 @@
 -- `mir::check_function::ranks_ok` meets its contract. The loop has tested every block below b, and seen marks their ranks. Assumes nothing.
 use mathlib.Core.Path.{◌≡◌}
-use mathlib.Core.Bool.{Bool, true, not, ◌&&◌}
+use mathlib.Core.Bool.{Bool, true, false, not, ◌&&◌}
 use mathlib.Core.List.{List}
-use Prim.Native.Nat.{ℕ, ◌-◌, ◌≤◌, ◌<◌}
+use Prim.Native.Nat.{ℕ, ◌<◌}
 use lib.Dec.{eqb, ltb}
 use lib.ListN.{length, get_or}
 use Rattle.model.specs.Words.{all}
@@ -17,12 +17,9 @@ unseen fn b r = all (λ c. not (eqb (rank fn c) r)) b
 unfoldable pub ranked : List ℕ → ℕ → Bool
 ranked fn b = ltb (rank fn b) (nblocks fn) && unseen fn b (rank fn b)
 
--- the array has a zero for each rank that is not seen, and for no other
-abbrev pub Marks : List ℕ → ℕ → List ℕ → Type 0
-Marks fn b seen = (r : ℕ) → r < 256 → eqb (get_or seen r 0) 0 ≡ unseen fn b r
+-- the array marks each rank that is seen, and no other
+abbrev pub Marks : List ℕ → ℕ → List Bool → Type 0
+Marks fn b seen = (r : ℕ) → r < 256 → not (get_or seen r false) ≡ unseen fn b r
 
 abbrev pub invariant-loop-b : goal.invariant-loop-b
-invariant-loop-b l = (l.b ≤ l.n) × (length l.seen ≡ 256) × (all (ranked l.fun) l.b ≡ true) × Marks l.fun l.b l.seen
-
-abbrev pub decreases-loop-b : goal.decreases-loop-b
-decreases-loop-b l = l.n - l.b
+invariant-loop-b l = (length l.seen ≡ 256) × (all (ranked l.fun) l.b ≡ true) × Marks l.fun l.b l.seen

@@ -4,11 +4,10 @@ use mathlib.Core.Bool.{true, false}
 use mathlib.Core.List.{List}
 use Prim.Native.Nat.{ℕ, ◌≤◌, ◌<◌}
 use native.Mathlib.Omega.{arith}
-use borrow.Author.Rules.{rules}
 use borrow.Author.Tests.{lt-ltb, le-ltb}
-use Rattle.model.specs.Function.{nblocks, nitems, start, stop, starts_ok}
+use Rattle.model.specs.Function.{nitems, start, stop, starts_ok}
 use Rattle.base.specs.Below.{all_fails}
-use Rattle.mir.proofs.Each.{all_none, all_next, all_done}
+use Rattle.type_record.proofs.Turns.{all_none, all_next}
 use Rattle.mir.proofs.check_function.starts_ok.Invariants.{placed}
 use Rattle.mir.proofs.check_function.starts_ok.Goals as goal
 
@@ -23,28 +22,15 @@ module _ (fn : List ℕ) (b : ℕ) where
   placed_past h l = rw (lt-ltb (start fn b) (stop fn b) h, le-ltb (start fn b) (nitems fn) l)
 
 pub loop-b-init : goal.loop-b-init
-loop-b-init c =
-    (search rules, all_none (placed c.args.fun.now))
+loop-b-init c = all_none _
 
 pub returns-then-stop_of-s : goal.returns-then-stop_of-s
 unfolding starts_ok
-returns-then-stop_of-s c =
-    let fn = c.args.fun.now in
-    sym (all_fails (placed fn) (nblocks fn) c.loop-b.b (omega arith) (placed_empty fn c.loop-b.b (omega arith)))
+returns-then-stop_of-s c = sym (all_fails _ _ c.loop-b.b (omega arith) (placed_empty _ _ (omega arith)))
 
-pub returns-then-m-s : goal.returns-then-m-s
+pub returns-then-n-s : goal.returns-then-n-s
 unfolding starts_ok
-returns-then-m-s c =
-    let fn = c.args.fun.now in
-    sym (all_fails (placed fn) (nblocks fn) c.loop-b.b (omega arith) (placed_past fn c.loop-b.b (omega arith) (omega arith)))
+returns-then-n-s c = sym (all_fails _ _ c.loop-b.b (omega arith) (placed_past _ _ (omega arith) (omega arith)))
 
 pub loop-b-preserved : goal.loop-b-preserved
-loop-b-preserved c =
-    let fn = c.args.fun.now in
-    (search rules, all_next (placed fn) c.loop-b.invariant.1 (placed_inside fn c.loop-b.b (omega arith) (omega arith)))
-
-pub returns : goal.returns
-unfolding starts_ok
-returns c =
-    let fn = c.args.fun.now in
-    sym (all_done (placed fn) c.loop-b.invariant.1 (omega arith) (omega arith))
+loop-b-preserved c = all_next _ _ c.loop-b.invariant (placed_inside _ _ (omega arith) (omega arith))

@@ -2,7 +2,7 @@
 use mathlib.Core.Path.{◌≡◌}
 use mathlib.Core.Bool.{Bool, true, ◌&&◌}
 use mathlib.Core.List.{List}
-use Prim.Native.Nat.{ℕ, ◌-◌, ◌≤◌}
+use Prim.Native.Nat.{ℕ}
 use lib.Dec.{ltb}
 use Rattle.model.specs.Words.{all}
 use Rattle.model.specs.Function.{nitems, start, stop}
@@ -13,7 +13,4 @@ abbrev pub placed : List ℕ → ℕ → Bool
 placed fn b = ltb (start fn b) (stop fn b) && ltb (start fn b) (nitems fn)
 
 abbrev pub invariant-loop-b : goal.invariant-loop-b
-invariant-loop-b l = (l.b ≤ l.n) × (all (placed l.fun) l.b ≡ true)
-
-abbrev pub decreases-loop-b : goal.decreases-loop-b
-decreases-loop-b l = l.n - l.b
+invariant-loop-b l = all (placed l.fun) l.b ≡ true

@@ -21,6 +21,7 @@ use Rattle.state.specs.Found.{FoundAll}
 use Rattle.state.proofs.Fields.{ready_typed}
 use borrow.Author.Rules.{rules}
 use Rattle.state.proofs.check_state.check_state.Goals as goal
+use Rattle.state.proofs.check_state.check_state.Goals.{then-n-gt512-via-then-n-gt512, then-n-gt512-via-else-n-gt512+then-not-zeros_from, then-n-gt512-via-else-n-gt512+else-not-zeros_from+then-not-zeros_from-2}
 
 module _ (Γ locals : List ℕ) (s : Model.State) where
   -- nothing is read from it
@@ -49,22 +50,14 @@ module _ (Γ locals : List ℕ) (s : Model.State) where
 
 pub returns-then-n-gt512 : goal.returns-then-n-gt512
 returns-then-n-gt512 c =
-    misshapen c.args.types.now c.args.locals.now (value c.args.s) (λ h. omega (arith, h.few))
-
-pub returns-then-not-zeros_from : goal.returns-then-not-zeros_from
-returns-then-not-zeros_from c =
-    misshapen c.args.types.now c.args.locals.now (value c.args.s) (λ h. true≢false (sym h.forms_zero ∙ sym c.zeros_from.ensures ∙ c.if-not-zeros_from.true))
-
-pub returns-then-not-zeros_from-2 : goal.returns-then-not-zeros_from-2
-returns-then-not-zeros_from-2 c =
-    misshapen c.args.types.now c.args.locals.now (value c.args.s) (λ h. true≢false (sym h.whats_zero ∙ sym c.zeros_from-2.ensures ∙ c.if-not-zeros_from-2.true))
-
-pub check_locals-requires : goal.check_locals-requires
-check_locals-requires c =
     let a = c.args in
-    let p = c.requires in
-    let lf : length a.s.forms ≡ 512 = search rules in
-    let lw : length a.s.whats ≡ 512 = search rules in record { ready = p.ready; locals_value = p.locals_value; both_long = (omega arith, omega arith) }
+    elim c.then-n-gt512.branch [
+      | then-n-gt512-via-then-n-gt512 w ↦ misshapen a.types.now a.locals.now (value a.s) (λ h. omega (arith, h.few))
+      | then-n-gt512-via-else-n-gt512+then-not-zeros_from w ↦
+          misshapen a.types.now a.locals.now (value a.s) (λ h. true≢false (sym h.forms_zero ∙ sym w.zeros_from.ensures ∙ w.if-not-zeros_from.true))
+      | then-n-gt512-via-else-n-gt512+else-not-zeros_from+then-not-zeros_from-2 w ↦
+          misshapen a.types.now a.locals.now (value a.s) (λ h. true≢false (sym h.whats_zero ∙ sym w.zeros_from-else-not-zeros_from.ensures ∙ w.if-not-zeros_from-2.true))
+    ]
 
 pub returns : goal.returns
 returns c =
@@ -78,5 +71,5 @@ returns c =
       forms_long = lf;
       whats_long = lw;
       forms_zero = sym c.zeros_from.ensures ∙ c.if-not-zeros_from.false;
-      whats_zero = sym c.zeros_from-2.ensures ∙ c.if-not-zeros_from-2.false;
+      whats_zero = sym c.zeros_from-else-not-zeros_from.ensures ∙ c.if-not-zeros_from-2.false;
     }) c.check_locals.result r.0 r.1

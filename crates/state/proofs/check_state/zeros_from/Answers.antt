@@ -1,43 +1,27 @@
--- `state::check_state::zeros_from` meets its contract. The loop's invariant: what has been passed is zero, so what is left decides.
--- Assumes nothing.
+-- `state::check_state::zeros_from` meets its contract. Assumes nothing.
 use borrow.Author.Rules.{rules}
-use borrow.Author.Tests.{eq-eqb, ne_eqb}
-use mathlib.Core.Path.{◌≡◌, refl, sym, ◌∙◌, ap}
-use mathlib.Core.Bool.{Bool, ◌&&◌}
-use mathlib.Core.List.{List}
-use Prim.Native.Nat.{ℕ, ◌+◌, ◌<◌}
-use native.Mathlib.Numerals.{add-one}
+use borrow.Author.Tests.{tests}
+use mathlib.Core.Path.{◌≡◌, refl, ap, ◌∙◌}
+use mathlib.Core.Bool.{◌&&◌}
+use mathlib.Core.List.{List, [], ◌∷◌}
+use Prim.Native.Nat.{ℕ}
 use native.Mathlib.Omega.{arith}
 use lib.Dec.{eqb}
-use lib.ListN.{length, get_or, drop, drop_of_length-le}
-use lib.Seq.{drop-cons}
+use lib.ListN.{length, drop}
+use Rattle.std.specs.List.{list_all}
+use Rattle.std.proofs.lemmas.Iterator.{YieldsList-from_slice}
+use Rattle.std.proofs.lemmas.Iterator.Search.{all_from_yields_List}
+use Rattle.std.proofs.lemmas.Slice.{between_to_end}
 use Rattle.model.specs.State.{zeros}
 use Rattle.state.proofs.check_state.zeros_from.Goals as goal
 
--- the words from i on are zero if word i is, with its test b, and those behind it
-zeros_at : (a : List ℕ) (i : ℕ) {b : Bool} → i < length a → eqb (get_or a i 0) 0 ≡ b → zeros (drop i a) ≡ b && zeros (drop (i + 1) a)
-zeros_at a i h e = ap zeros (drop-cons a i 0 h) ∙ rw (e, add-one)
-
-pub loop-i-init : goal.loop-i-init
-loop-i-init c = (search rules, search rules, refl)
-
-pub returns-then-a-i-ne0 : goal.returns-then-a-i-ne0
-returns-then-a-i-ne0 c =
-    let a = c.args.a in
-    let L = c.loop-i in
-    let l : length a ≡ 512 = search rules in
-    sym (L.invariant.2 ∙ zeros_at a L.i (omega arith) (ne_eqb (get_or a L.i 0) 0 c.if-a-i-ne0.true))
-
-pub loop-i-preserved : goal.loop-i-preserved
-loop-i-preserved c =
-    let a = c.args.a in
-    let L = c.loop-i in
-    let l : length a ≡ 512 = search rules in
-    (omega arith, omega arith, L.invariant.2 ∙ zeros_at a L.i (omega arith) (eq-eqb (get_or a L.i 0) 0 c.if-a-i-ne0.false))
+all_zeros : (l : List ℕ) → list_all (λ x. eqb x 0) l ≡ zeros l
+all_zeros [] = refl
+all_zeros (x ∷ l) = ap (λ b. eqb x 0 && b) (all_zeros l)
 
 pub returns : goal.returns
 returns c =
-    let a = c.args.a in
-    let L = c.loop-i in
-    let l : length a ≡ 512 = search rules in
-    sym (L.invariant.2 ∙ ap zeros (drop_of_length-le a {i = L.i} (omega arith)))
+    let a : List ℕ = c.args.a.now in
+    let rest : c.iter.result.rest.now ≡ drop c.args.n a = c.iter.ensures.rest ∙ between_to_end a c.args.n (length a) (omega arith) in
+    let e : c.all.result ≡ list_all (λ x. eqb x 0) (drop c.args.n a) = all_from_yields_List (λ x. eqb x 0) _ _ c.all.result c.all.ensures.ran (YieldsList-from_slice (drop c.args.n a) rest) (λ x b q k. search (rules, tests)) in
+    e ∙ all_zeros (drop c.args.n a)

@@ -12,5 +12,5 @@ returns c =
     let s = c.args in
     let pre = c.requires in
     c.clear.ensures
-    ∙ ap (λ (l : List ℕ). cleared l s.i (s.i + s.gap)) c.move_up.ensures
+    ∙ ap (λ (l : List ℕ). cleared l s.i (s.i + s.gap)) c.copy_within.ensures.after
     ∙ room_made s.a.now s.n s.i s.gap (omega arith) (omega arith) (omega arith) pre.padded.0 pre.padded.1

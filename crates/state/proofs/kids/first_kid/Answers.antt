@@ -9,10 +9,6 @@ use Rattle.state.specs.Kids.{kid_types, rest_kids}
 use Rattle.state.proofs.Fields.{ready_typed, ready_counted, fields_first, fields_rest}
 use Rattle.state.proofs.kids.first_kid.Goals as goal
 
-pub part_at-requires : goal.part_at-requires
-part_at-requires c =
-    let p = c.requires in record { counted = ready_counted p.ready; offsets = p.ready.offsets; t_bound = p.kids_in.known; j_bound = omega arith }
-
 pub returns : goal.returns
 returns c =
     let a = c.args in

@@ -15,7 +15,4 @@ decreases-node_end l = 2 * (length l.forms.now - l.i)
 
 abbrev pub invariant-fields_end-loop-k : goal.invariant-fields_end-loop-k
 invariant-fields_end-loop-k l =
-    (l.k ≤ l.n) × (l.i ≤ l.e) × ((xs : Forest) → CodedAll l.types l.forms l.whats l.i (parts l.types l.u l.j l.n) xs → Passed l.types l.forms l.whats l.i l.u l.j l.n xs l.e l.k)
-
-abbrev pub decreases-fields_end-loop-k : goal.decreases-fields_end-loop-k
-decreases-fields_end-loop-k l = l.n - l.k
+    (l.i ≤ l.e) × ((xs : Forest) → CodedAll l.types l.forms l.whats l.i (parts l.types l.u l.j l.n) xs → Passed l.types l.forms l.whats l.i l.u l.j l.n xs l.e l.k)

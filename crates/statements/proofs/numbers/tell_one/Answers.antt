@@ -1,23 +1,18 @@
--- `statements::numbers::tell_one` meets its contract. Assumes nothing.
-use mathlib.Core.Path.{refl, sym, ap}
+-- `statements::numbers::tell_one` meets its contract: a verb's number is stored where there is room. Assumes nothing.
+use mathlib.Core.Path.{sym, ap, ◌∙◌}
 use native.Mathlib.Omega.{arith}
 use lib.ListN.{set}
 use lib.Seq.{set_out}
 use Rattle.statements.specs.Marked.{number_of}
-use Rattle.statements.proofs.Marks.{verb_tells, other_tells}
+use Rattle.statements.proofs.Marks.{verb_tells}
 use Rattle.statements.proofs.numbers.tell_one.Goals as goal
+use Rattle.statements.proofs.numbers.tell_one.Goals.{then-j-told, else-j-told}
 
-pub returns-then-op-lt-FOLD : goal.returns-then-op-lt-FOLD
-returns-then-op-lt-FOLD c =
-    let e = other_tells c.args.op c.args.mark (omega arith) in
-    rw e record { told_after = refl; next = omega arith }
-
-pub returns-then-told-j : goal.returns-then-told-j
-returns-then-told-j c =
-    let e = verb_tells c.args.op c.args.mark (omega arith) in
-    rw e record { told_after = sym (set_out c.args.told.now c.args.j (number_of c.args.mark) (omega arith)); next = omega arith }
-
-pub returns : goal.returns
-returns c =
-    let e = verb_tells c.args.op c.args.mark (omega arith) in
-    rw e record { told_after = ap (set c.args.told.now c.args.j) c.number_of.ensures; next = omega arith }
+pub returns-clause-told_after : goal.returns-clause-told_after
+returns-clause-told_after c =
+    let a = c.args in
+    rw (verb_tells a.op a.mark (omega arith))
+    (elim c.if-j-told.branch [
+      | then-j-told w ↦ w.told-is ∙ ap (set a.told.now a.j) w.number_of.ensures
+      | else-j-told w ↦ w.told-is ∙ sym (set_out a.told.now a.j (number_of a.mark) (omega arith))
+    ])

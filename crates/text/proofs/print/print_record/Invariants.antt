@@ -2,8 +2,9 @@
 -- is that of the lines. Assumes nothing.
 use mathlib.Core.Path.{◌≡◌}
 use mathlib.Core.List.{◌++◌}
-use Prim.Native.Nat.{◌+◌, ◌-◌, ◌*◌, ◌≤◌}
+use Prim.Native.Nat.{◌+◌, ◌*◌, ◌≤◌}
 use lib.ListN.{length, take, drop}
+use Rattle.std.specs.Prelude.{None}
 use Rattle.records.specs.Entries.{entries_of}
 use Rattle.text.specs.Printing.{kept_for}
 use Rattle.text.proofs.Entries.{entries_text}
@@ -11,8 +12,5 @@ use Rattle.text.proofs.print.print_record.Given as goal
 
 abbrev pub invariant-loop-k : goal.invariant-loop-k
 invariant-loop-k l =
-    (l.k ≤ l.e) × (length l.text ≡ length l.initial.text) × (l.p.at + kept_for l.p.verb ≤ 14 * l.k) × (l.p.line ≤ l.k)
-    × (take l.p.at l.text ++ entries_text l.p.verb (drop l.p.line l.told) (drop l.k (entries_of l.out)) ≡ entries_text 0 l.told (entries_of l.out))
-
-abbrev pub decreases-loop-k : goal.decreases-loop-k
-decreases-loop-k l = l.e - l.k
+    (length l.text ≡ length l.initial.text) × (l.p.at + kept_for l.p.verb ≤ 14 * l.k) × (l.p.line ≤ l.k)
+    × (take l.p.at l.text ++ entries_text l.p.verb (drop l.p.line l.told) (drop l.k (entries_of l.out)) ≡ entries_text None l.told (entries_of l.out))

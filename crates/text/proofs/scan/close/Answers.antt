@@ -1,18 +1,19 @@
 -- `text::scan::close` meets its contract. Assumes nothing.
-use borrow.Author.Tests.{not-true, not-false, lt-ltb, le-ltb}
-use mathlib.Core.Path.{◌≡◌, refl, sym, ap, ◌∙◌}
+use borrow.Author.Tests.{lt-ltb, le-ltb}
+use mathlib.Core.Path.{◌≡◌, refl, ap, ◌∙◌}
 use mathlib.Core.Bool.{true, false}
 use mathlib.Core.List.{List, [], ◌∷◌, ◌++◌}
 use Prim.Native.Nat.{ℕ, suc, ◌+◌, ◌≤◌, ◌<◌}
 use native.Mathlib.Numerals.{add-one}
 use native.Mathlib.Omega.{arith}
-use lib.ListN.{set, length-set}
+use lib.ListN.{length, set, length-set}
 use lib.Seq.{take-suc-set}
+use Rattle.std.specs.Prelude.{Option, None, Some}
 use Rattle.model.specs.Ghosts as Model
 use Rattle.model.specs.Ghosts.{close, backwards}
 use Rattle.text.specs.declared.scan.Scan.{Scan}
-use Rattle.text.specs.Reading.{Reads}
-use Rattle.text.proofs.Stepped.{stays, spoils, steps_as}
+use Rattle.text.specs.Reading.{Held, Well, Steps}
+use Rattle.text.proofs.Stepped.{stays, spoils, stays_spoilt, steps_as}
 use Rattle.text.proofs.scan.close.Goals as goal
 
 -- m, with the word that was being read
@@ -40,32 +41,52 @@ backwards_append : (l a b : List ℕ) → backwards l a ++ b ≡ backwards l (a 
 backwards_append [] a b = refl
 backwards_append (x ∷ l) a b = backwards_append l (x ∷ a) b
 
+close_spoilt : close Model.spoilt ≡ Model.spoilt
+unfolding close
+close_spoilt = refl
+
 -- the word that is being read is kept
-keeps : (m : Model.Scan) (s : Scan) (words : List ℕ) → Reads m s words → s.total < 4096
-    → Reads (ended m) (record { total = s.total + 1; inside = false; value = 0; fine = s.fine }) (set words s.total s.value)
-keeps m s words h l =
+keeps : (m : Model.Scan) (s : Scan) (v : ℕ) (words : List ℕ) → length words ≡ 4096 → Well m s words → Held m (Some v) → s.total < 4096
+    → Well (ended m) (record { total = s.total + 1; value = None }) (set words s.total v)
+keeps m s v words n h k l =
     record {
       total = add-one s.total ∙ ap suc h.total;
-      inside = refl;
-      value = refl;
+      value = (refl, refl);
       fine = h.fine;
-      room = length-set words s.total s.value ∙ h.room;
-      front = rw (← h.total, take-suc-set words s.total s.value (omega (arith, h.room)), h.total, h.front, h.value)
-          (backwards_append m.words [] (m.value ∷ []));
+      front = rw (← h.total, take-suc-set words s.total v (omega (arith, n)), h.total, h.front, k.1)
+          (backwards_append m.words [] (v ∷ []));
     }
 
-pub returns-then-not-s : goal.returns-then-not-s
-returns-then-not-s c =
-    steps_as (λ m h. close_outside m (sym h.inside ∙ not-true _ c.if-not-s.true)) (stays _ c.requires)
+module _ (o : Option Scan) (words : List ℕ) (n : length words ≡ 4096) where
+  -- all is spoilt already
+  spoilt_before : o ≡ None → Steps close o words None words
+  spoilt_before e = rw e (stays_spoilt words n close_spoilt)
 
-pub returns-then-n-ge-MOST_WORDS : goal.returns-then-n-ge-MOST_WORDS
-returns-then-n-ge-MOST_WORDS c =
-    steps_as (λ m h. close_full m (sym h.inside ∙ not-false _ c.if-not-s.false) (omega (arith, h.total)))
-    (spoils _ c.requires c.spoilt.ensures)
+  module _ (s : Scan) (e : o ≡ Some s) where
+    outside : s.value ≡ None → Steps close o words (Some s) words
+    outside d = rw e (steps_as (λ m h. close_outside m (rw d at h.at.value).0) (stays words n))
+
+    module _ (v : ℕ) (d : s.value ≡ Some v) where
+      full : 4096 ≤ s.total → Steps close o words None words
+      full l = rw e (steps_as (λ m h. close_full m (rw d at h.at.value).0 (omega (arith, h.at.total))) (spoils words n))
+
+      word_ends : s.total < 4096 → Steps close o words (Some (record { total = s.total + 1; value = None })) (set words s.total v)
+      word_ends l =
+          rw e (record {
+            room = length-set words s.total v ∙ n;
+            reads = λ m h.
+                let k : Held m (Some v) = rw d at h.at.value in
+                rw (close_word m k.0 (omega (arith, h.at.total))) (record { room = length-set words s.total v ∙ n; at = keeps m s v words n h.at k l });
+          })
+
+pub returns-in_err-s : goal.returns-in_err-s
+returns-in_err-s c = rw c.from_residual.ensures (spoilt_before _ _ c.requires c.in_err-s.was)
+
+pub returns-in_default : goal.returns-in_default
+returns-in_default c = outside _ _ c.requires _ c.in_ok-s.was c.in_default.is
+
+pub returns-then-s-ge-MOST_WORDS : goal.returns-then-s-ge-MOST_WORDS
+returns-then-s-ge-MOST_WORDS c = full _ _ c.requires _ c.in_ok-s.was _ c.in-Some.is c.if-s-ge-MOST_WORDS.true
 
 pub returns : goal.returns
-returns c =
-    record {
-      room = simp length-set c.requires;
-      reads = λ m h. rw (close_word m (sym h.inside ∙ not-false _ c.if-not-s.false) (omega (arith, h.total))) (keeps m _ _ h c.if-n-ge-MOST_WORDS.false);
-    }
+returns c = word_ends _ _ c.requires _ c.in_ok-s.was _ c.in-Some.is c.if-s-ge-MOST_WORDS.false

@@ -1,17 +1,21 @@
 -- `text::scan::scan_byte` meets its contract: what each kind of byte does. Assumes nothing.
-use borrow.Author.Tests.{not-true, not-false, le-leb, lt-leb, eq-eqb, ne_eqb}
-use mathlib.Core.Path.{◌≡◌, sym, ◌∙◌}
+use borrow.Author.Tests.{le-leb, lt-leb, eq-eqb, ne_eqb}
+use mathlib.Core.Path.{◌≡◌, refl}
 use mathlib.Core.Logic.{◌⊎◌, inl, inr, ⊎_elim}
 use mathlib.Core.Bool.{true, false}
 use Prim.Native.Nat.{ℕ, ◌-◌, ◌≤◌, ◌<◌}
 use native.Mathlib.Omega.{arith}
+use mathlib.Core.List.{List}
 use lib.Dec.{eqb}
+use lib.ListN.{length}
+use Rattle.std.specs.Prelude.{Option, None, Some}
 use Rattle.model.specs.Ghosts as Model
 use Rattle.model.specs.Ghosts.{close, digit, scan_byte}
 use Rattle.records.specs.Scanned.{byte_bad}
-use Rattle.text.proofs.Stepped.{spoils, steps_as}
+use Rattle.text.specs.declared.scan.Scan.{Scan}
+use Rattle.text.specs.Reading.{Steps}
+use Rattle.text.proofs.Stepped.{spoils, stays_spoilt, steps_as}
 use Rattle.text.proofs.scan.scan_byte.Goals as goal
-use Rattle.text.proofs.scan.scan_byte.Goals.{in_default-via-then-c-lt48, in_default-via-else-c-lt48+else-c-lt58}
 
 module _ (c : ℕ) (m : Model.Scan) (f : m.fine ≡ true) where
   -- a newline or a blank
@@ -32,22 +36,32 @@ module _ (c : ℕ) (m : Model.Scan) (f : m.fine ≡ true) where
       let q : eqb c 32 ≡ false = ne_eqb c 32 (λ e. n (inr e)) in
       ⊎_elim (λ l. cc (lt-leb 48 c l)) (λ l. cc (le-leb 48 c (omega arith), lt-leb c 57 (omega arith))) h
 
-pub returns-then-not-s : goal.returns-then-not-s
-returns-then-not-s c =
-    steps_as (λ m h. byte_bad _ m (sym h.fine ∙ not-true _ c.if-not-s.true)) (spoils _ c.requires c.spoilt.ensures)
+spoilt_byte : (c : ℕ) → scan_byte c Model.spoilt ≡ Model.spoilt
+spoilt_byte c = byte_bad c Model.spoilt refl
+
+-- all is spoilt already
+spoilt_before : (c : ℕ) {o : Option Scan} (words : List ℕ) → length words ≡ 4096 → o ≡ None → Steps (scan_byte c) o words None words
+spoilt_before c words n e = rw e (stays_spoilt words n (spoilt_byte c))
+
+-- the byte is read as f reads
+read_as : {f : Model.Scan → Model.Scan} (c : ℕ) {o : Option Scan} (s : Scan) {words after : List ℕ} {r : Option Scan} → o ≡ Some s
+    → ((m : Model.Scan) → m.fine ≡ true → scan_byte c m ≡ f m) → Steps f (Some s) words r after → Steps (scan_byte c) o words r after
+read_as c s e k h = rw e (steps_as (λ m w. k m w.at.fine) h)
+
+pub returns-in_err-s : goal.returns-in_err-s
+returns-in_err-s c = rw c.from_residual.ensures (spoilt_before _ _ c.requires c.in_err-s.was)
 
 pub returns-in-10 : goal.returns-in-10
-returns-in-10 c =
-    steps_as (λ m h. byte_blank _ m (sym h.fine ∙ not-false _ c.if-not-s.false) c.in-10.is) c.close.ensures
+returns-in-10 c = read_as _ _ c.in_ok-s.was (λ m f. byte_blank _ m f c.in-10.is) c.close.ensures
 
 pub returns-in-48-to-57 : goal.returns-in-48-to-57
 returns-in-48-to-57 c =
-    steps_as (λ m h. byte_digit _ m (sym h.fine ∙ not-false _ c.if-not-s.false) (omega arith) (omega arith))
-    (c.digit.ensures _ c.requires)
+    read_as _ _ c.in_ok-s.was (λ m f. byte_digit _ m f (omega arith) (omega arith)) (rw c.from.ensures at (c.digit.ensures _ c.requires))
 
 pub returns-in_default : goal.returns-in_default
 returns-in_default c =
-    let n : ¬ ((c.args.c ≡ 10) ⊎ (c.args.c ≡ 32)) = ⊎_elim (λ e. grind arith) (λ e. grind arith) in
-    let l : (c.args.c < 48) ⊎ (58 ≤ c.args.c) =
-    elim c.in_default.branch [ in_default-via-then-c-lt48 w ↦ inl (omega arith) | in_default-via-else-c-lt48+else-c-lt58 w ↦ inr (omega arith) ] in
-    steps_as (λ m h. byte_other _ m (sym h.fine ∙ not-false _ c.if-not-s.false) n l) (spoils _ c.requires c.spoilt-in_default.ensures)
+    read_as _ _ c.in_ok-s.was (λ m f. byte_other _ m f (⊎_elim (λ e. grind arith) (λ e. grind arith)) (inl (omega arith))) (spoils _ c.requires)
+
+pub returns-in_default-2 : goal.returns-in_default-2
+returns-in_default-2 c =
+    read_as _ _ c.in_ok-s.was (λ m f. byte_other _ m f (⊎_elim (λ e. grind arith) (λ e. grind arith)) (inr (omega arith))) (spoils _ c.requires)

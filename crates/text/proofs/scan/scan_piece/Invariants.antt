@@ -1,12 +1,8 @@
--- `text::scan::scan_piece` meets its contract. The loop's invariant: the bytes before i are read. Assumes nothing.
-use Prim.Native.Nat.{◌-◌, ◌≤◌}
+-- `text::scan::scan_piece` meets its contract. The loop's invariant: the bytes so far are read. Assumes nothing.
 use lib.ListN.{take}
 use Rattle.model.specs.Ghosts.{scan}
 use Rattle.text.specs.Reading.{Steps}
 use Rattle.text.proofs.scan.scan_piece.Given as goal
 
-abbrev pub invariant-loop-i : goal.invariant-loop-i
-invariant-loop-i l = (l.i ≤ l.n) × Steps (scan (take l.i l.text)) l.initial.t l.initial.words l.t l.words
-
-abbrev pub decreases-loop-i : goal.decreases-loop-i
-decreases-loop-i l = l.n - l.i
+abbrev pub invariant-loop-c : goal.invariant-loop-c
+invariant-loop-c l = Steps (scan (take l.c-index l.text)) l.fn.s l.initial.words l.t l.words

@@ -3,8 +3,12 @@ use mathlib.Core.Path.{◌≡◌, sym, ap, ◌∙◌}
 use mathlib.Core.List.{List}
 use Prim.Native.Nat.{ℕ, ◌≤◌, ◌<◌}
 use native.Mathlib.Omega.{arith}
+use Prim.Native.Nat.{min}
+use lib.Dec.{ltb}
 use lib.ListN.{length, take, drop, drop_of_length-le}
 use lib.Seq.{take-length, take_all, drop-length}
+use borrow.Author.Tests.{ltb-true, ltb-false}
+use Rattle.base.specs.Tests.{split}
 use Rattle.model.specs.Types.{types_length}
 use Rattle.model.specs.Ghosts.{function_words}
 use Rattle.text.specs.Parted.{Parted}
@@ -26,8 +30,11 @@ whole ws l =
       function = drop-length ws ∙ sym (drop_of_length-le ws l);
     }
 
-pub returns-then-t-n : goal.returns-then-t-n
-returns-then-t-n c = parted _ _ c.types_length-t.ensures c.if-t-n.true
+start : (ws : List ℕ) (t : ℕ) → t ≡ types_length ws → Parted ws (min t (length ws))
+start ws t e =
+    split (ltb t (length ws))
+    (λ b. let l = ltb-true t (length ws) b in let m : min t (length ws) ≡ t = omega arith in rw m (parted ws t e l))
+    (λ b. let l = ltb-false t (length ws) b in let m : min t (length ws) ≡ length ws = omega arith in rw m (whole ws (omega arith)))
 
-pub returns-else-t-n : goal.returns-else-t-n
-returns-else-t-n c = whole _ (omega (arith, c.types_length-t.ensures))
+pub returns : goal.returns
+returns c = rw c.min.ensures (start _ _ c.types_length.ensures)

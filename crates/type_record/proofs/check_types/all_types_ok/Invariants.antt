@@ -1,13 +1,9 @@
 -- `type_record::check_types::all_types_ok` meets its contract. The invariant: the types below t pass. Assumes nothing.
 use mathlib.Core.Path.{◌≡◌}
 use mathlib.Core.Bool.{true}
-use Prim.Native.Nat.{◌-◌}
 use Rattle.model.specs.Words.{all}
 use Rattle.model.specs.Types.{type_ok}
 use Rattle.type_record.proofs.check_types.all_types_ok.Given as goal
 
 abbrev pub invariant-loop-t : goal.invariant-loop-t
 invariant-loop-t l = all (type_ok l.types) l.t ≡ true
-
-abbrev pub decreases-loop-t : goal.decreases-loop-t
-decreases-loop-t l = l.n - l.t

@@ -1,6 +1,6 @@
 -- `type_record::check_types::check_types` meets its contract: the three parts of refusal 1, in order. Assumes nothing.
-use mathlib.Core.Path.{◌≡◌, refl, sym, ◌∙◌, ap}
-use mathlib.Core.Bool.{Bool, true, false, not, true≢false}
+use mathlib.Core.Path.{◌≡◌, sym, ◌∙◌, ap}
+use mathlib.Core.Bool.{Bool, true, false, not}
 use mathlib.Core.List.{List}
 use Prim.Native.Nat.{ℕ}
 use borrow.Author.Tests.{not-true, not-false}
@@ -10,7 +10,7 @@ use Rattle.type_record.proofs.Passed.{sizes_sized, counts_counted}
 use Rattle.type_record.proofs.check_types.check_types.Goals as goal
 
 -- a, b: what the first two parts answered
-module _ (Γ : List ℕ) (a : Bool) (e : a ≡ type_sizes Γ) where
+module _ (Γ : List ℕ) {a : Bool} (e : a ≡ type_sizes Γ) where
   no_sizes : not a ≡ true → false ≡ types_ok Γ
   unfolding types_ok
   no_sizes h = cc (not-true a h)
@@ -19,33 +19,33 @@ module _ (Γ : List ℕ) (a : Bool) (e : a ≡ type_sizes Γ) where
     sized : Sized Γ
     sized = sizes_sized Γ (sym e ∙ not-false a h)
 
-    module _ (b : Bool) (f : b ≡ counts_add Γ) where
-      no_counts : not b ≡ true → false ≡ types_ok Γ
+    module _ {b : Bool} (f : b ≡ counts_add Γ) where
+      no_counts : b ≡ false → b ≡ types_ok Γ
       unfolding types_ok
-      no_counts g = cc (not-false a h, not-true b g)
+      no_counts g = cc (not-false a h)
 
-      counted : not b ≡ false → Counted Γ
-      counted g = counts_counted Γ sized (sym f ∙ not-false b g)
+      module _ (g : b ≡ true) where
+        counted : Counted Γ
+        counted = counts_counted Γ sized (sym f ∙ g)
 
-      decides : not b ≡ false → all_types_ok Γ ≡ types_ok Γ
-      unfolding types_ok
-      decides g = cc (not-false a h, not-false b g)
+        decides : {d : Bool} → d ≡ all_types_ok Γ → d ≡ types_ok Γ
+        unfolding types_ok
+        decides i = cc (not-false a h)
 
-pub returns-then-not-type_sizes : goal.returns-then-not-type_sizes
-returns-then-not-type_sizes c = record { answer = no_sizes _ _ c.type_sizes.ensures (ap not c.if-not-type_sizes.true); filled = λ e. absurd (true≢false (sym e)); rest = refl }
+pub returns-then-not-type_sizes-clause-answer : goal.returns-then-not-type_sizes-clause-answer
+returns-then-not-type_sizes-clause-answer c = no_sizes _ c.type_sizes.ensures (ap not c.if-not-type_sizes.true)
 
-pub fill_offsets-requires : goal.fill_offsets-requires
-fill_offsets-requires c = record { sized = sized _ _ c.type_sizes.ensures (ap not c.if-not-type_sizes.false); in_bounds = c.requires }
+pub fill_offsets-requires-clause-sized : goal.fill_offsets-requires-clause-sized
+fill_offsets-requires-clause-sized c = sized _ c.type_sizes.ensures (ap not c.if-not-type_sizes.false)
 
-pub returns-then-not-fill_offsets : goal.returns-then-not-fill_offsets
-returns-then-not-fill_offsets c =
-    let g = c.fill_offsets.ensures in record { answer = no_counts _ _ c.type_sizes.ensures (ap not c.if-not-type_sizes.false) _ g.counts (ap not c.if-not-fill_offsets.true); filled = λ e. absurd (true≢false (sym e)); rest = g.rest }
+pub all_types_ok-requires-clause-counted : goal.all_types_ok-requires-clause-counted
+all_types_ok-requires-clause-counted c =
+    counted _ c.type_sizes.ensures (ap not c.if-not-type_sizes.false) c.fill_offsets.ensures.counts c.if-fill_offsets.true
 
-pub all_types_ok-requires : goal.all_types_ok-requires
-all_types_ok-requires c =
-    let g = c.fill_offsets.ensures in record { counted = counted _ _ c.type_sizes.ensures (ap not c.if-not-type_sizes.false) _ g.counts (ap not c.if-not-fill_offsets.false); offsets = g.filled (not-false _ (ap not c.if-not-fill_offsets.false)) }
+pub returns-then-fill_offsets-clause-answer : goal.returns-then-fill_offsets-clause-answer
+returns-then-fill_offsets-clause-answer c =
+    decides _ c.type_sizes.ensures (ap not c.if-not-type_sizes.false) c.fill_offsets.ensures.counts c.if-fill_offsets.true c.all_types_ok.ensures
 
-pub returns : goal.returns
-returns c =
-    let g = c.fill_offsets.ensures in
-    let h = (ap not c.if-not-fill_offsets.false) in record { answer = c.all_types_ok.ensures ∙ decides _ _ c.type_sizes.ensures (ap not c.if-not-type_sizes.false) _ g.counts h; filled = λ e. g.filled (not-false _ h); rest = g.rest }
+pub returns-else-fill_offsets-clause-answer : goal.returns-else-fill_offsets-clause-answer
+returns-else-fill_offsets-clause-answer c =
+    no_counts _ c.type_sizes.ensures (ap not c.if-not-type_sizes.false) c.fill_offsets.ensures.counts c.if-fill_offsets.false

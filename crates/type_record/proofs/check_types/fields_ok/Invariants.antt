@@ -2,7 +2,7 @@
 use mathlib.Core.Path.{◌≡◌}
 use mathlib.Core.Bool.{true}
 use mathlib.Core.List.{List}
-use Prim.Native.Nat.{ℕ, ◌+◌, ◌-◌, ◌≤◌}
+use Prim.Native.Nat.{ℕ, ◌+◌, ◌-◌}
 use Rattle.model.specs.Words.{all}
 use Rattle.model.specs.Types.{field_ok}
 use Rattle.type_record.proofs.check_types.fields_ok.Given as goal
@@ -12,7 +12,4 @@ abbrev pub Pass : List ℕ → ℕ → ℕ → ℕ → Type 0
 Pass Γ t k j = all (λ i. field_ok Γ t (k + i)) (j - k) ≡ true
 
 abbrev pub invariant-loop-j : goal.invariant-loop-j
-invariant-loop-j l = (l.first ≤ l.j) × Pass l.types l.t l.first l.j
-
-abbrev pub decreases-loop-j : goal.decreases-loop-j
-decreases-loop-j l = l.n - l.j
+invariant-loop-j l = Pass l.types l.t l.first l.j

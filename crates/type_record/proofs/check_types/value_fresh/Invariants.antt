@@ -2,7 +2,7 @@
 use mathlib.Core.Path.{◌≡◌}
 use mathlib.Core.Bool.{Bool, true, not}
 use mathlib.Core.List.{List}
-use Prim.Native.Nat.{ℕ, ◌-◌, ◌≤◌}
+use Prim.Native.Nat.{ℕ}
 use lib.Dec.{eqb}
 use Rattle.model.specs.Words.{all}
 use Rattle.model.specs.Types.{discriminant}
@@ -13,7 +13,4 @@ abbrev pub differs : List ℕ → ℕ → ℕ → ℕ → Bool
 differs Γ t j i = not (eqb (discriminant Γ t i) (discriminant Γ t j))
 
 abbrev pub invariant-loop-i : goal.invariant-loop-i
-invariant-loop-i l = (l.i ≤ l.j) × (all (differs l.types l.t l.j) l.i ≡ true)
-
-abbrev pub decreases-loop-i : goal.decreases-loop-i
-decreases-loop-i l = l.j - l.i
+invariant-loop-i l = all (differs l.types l.t l.j) l.i ≡ true

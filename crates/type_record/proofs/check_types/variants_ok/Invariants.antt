@@ -1,13 +1,9 @@
 -- `type_record::check_types::variants_ok` meets its contract. The invariant: the variants below j pass. Assumes nothing.
 use mathlib.Core.Path.{◌≡◌}
 use mathlib.Core.Bool.{true}
-use Prim.Native.Nat.{◌-◌}
 use Rattle.model.specs.Words.{all}
 use Rattle.model.specs.Types.{variant_ok}
 use Rattle.type_record.proofs.check_types.variants_ok.Given as goal
 
 abbrev pub invariant-loop-j : goal.invariant-loop-j
 invariant-loop-j l = all (variant_ok l.types l.t) l.j ≡ true
-
-abbrev pub decreases-loop-j : goal.decreases-loop-j
-decreases-loop-j l = l.n - l.j

@@ -6,6 +6,7 @@ use mathlib.Core.Bool.{Bool}
 use mathlib.Core.List.{List}
 use Prim.Native.Nat.{ℕ, suc, ◌-◌, ◌<◌, ◌≤◌}
 use native.Mathlib.Omega.{arith}
+use Rattle.std.proofs.lemmas.Result.{err_from_is_err_and}
 use Rattle.model.specs.Answer.{refused}
 use Rattle.model.specs.Function.{nblocks, start, stop, op}
 use Rattle.base.specs.Function.{stop_inside}
@@ -22,21 +23,23 @@ use Rattle.visit.proofs.Steps.{returns_is, returns_not, target_behind, jumps_mee
 use Rattle.visit.proofs.Entering.{alike_same, alike_then, told_remembers, visits_pen, visits_refused, passes_block, passes_gone, enter_refused, enter_over, enter_leave, enters_departs}
 use Rattle.visit.proofs.Leaving.{left_start, left_skip, left_next, left_over, left_refused, left_end, aimed_refused}
 use Rattle.visit.proofs.block.+basic_block_goto_terminator.Goals as goal
-use Rattle.visit.proofs.block.+basic_block_goto_terminator.Goals.{terminator-then-op_of-eq10+in-Over, terminator-else-op_of-eq10}
+use Rattle.visit.proofs.block.+basic_block_goto_terminator.Goals.{terminator-In-loop-i, terminator-then-op_of-eq-TARGET+in_ok-q, terminator-else-op_of-eq-TARGET}
 
 -- A BLOCK THAT IS ENTERED
 
-pub basic_block-pass_items-r-requires-clause-within : goal.basic_block-pass_items-r-requires-clause-within
-basic_block-pass_items-r-requires-clause-within t c =
+pub basic_block-pass_items-requires-clause-within : goal.basic_block-pass_items-requires-clause-within
+basic_block-pass_items-requires-clause-within t c =
     let A = formed_accepted c.requires.accepted.formed in
     record {
       order = omega (arith, c.start_of-from.ensures, c.stop_of-end.ensures, A.starts _ c.requires.come.known);
       inside = omega (arith, c.stop_of-end.ensures, stop_inside A c.args.w.block);
     }
 
-pub basic_block-returns-then-r-ne0 : goal.basic_block-returns-then-r-ne0
-basic_block-returns-then-r-ne0 t c = λ m E R N H.
-    enter_refused c.args.w.left c.requires.come.known E m (passes_block E c.args.w.block c.start_of-from.ensures c.stop_of-end.ensures (c.pass_items-r.ensures E H)) c.if-r-ne0.true
+pub basic_block-returns-in_err-q : goal.basic_block-returns-in_err-q
+basic_block-returns-in_err-q t c =
+    let r = err_from_is_err_and c.from_residual.result c.from_residual.ensures.1 in
+    rw (r.1, r.2) (λ m E R N H.
+    enter_refused c.args.w.left c.requires.come.known E m (passes_block E c.args.w.block c.start_of-from.ensures c.stop_of-end.ensures (c.in_err-q.ensures E H)))
 
 pub basic_block-overflow_sub-end : goal.basic_block-overflow_sub-end
 basic_block-overflow_sub-end t c =
@@ -47,8 +50,8 @@ basic_block-op_of-requires-clause-i_bound t c =
     let A = formed_accepted c.requires.accepted.formed in
     omega (arith, c.stop_of-end.ensures, A.starts _ c.requires.come.known, stop_inside A c.args.w.block)
 
-pub basic_block-overflow_sub-end-then-op_of-eq11 : goal.basic_block-overflow_sub-end-then-op_of-eq11
-basic_block-overflow_sub-end-then-op_of-eq11 t c =
+pub basic_block-overflow_sub-end-then-op_of-eq-RETURN : goal.basic_block-overflow_sub-end-then-op_of-eq-RETURN
+basic_block-overflow_sub-end-then-op_of-eq-RETURN t c =
     omega (arith, c.stop_of-end.ensures, (formed_accepted c.requires.accepted.formed).starts _ c.requires.come.known)
 
 pub basic_block-returned-requires-clause-i_bound : goal.basic_block-returned-requires-clause-i_bound
@@ -59,23 +62,23 @@ basic_block-returned-requires-clause-i_bound t c =
 pub basic_block-returned-requires-clause-stated : goal.basic_block-returned-requires-clause-stated
 basic_block-returned-requires-clause-stated t c =
     let o = c.requires.ongoing in
-    let (w, u, G) = passes_gone (passes_block o.state c.args.w.block c.start_of-from.ensures c.stop_of-end.ensures (c.pass_items-r.ensures o.state o.holds)) c.if-r-ne0.false in
-    record { state = w.0; holds = G.state }
+    let (w, u, G, T) = passes_gone (passes_block o.state c.args.w.block c.start_of-from.ensures c.stop_of-end.ensures (c.in_ok-q.ensures o.state o.holds)) in
+    record { state = w.0; holds = G }
 
 pub basic_block-returned-requires-clause-counted : goal.basic_block-returned-requires-clause-counted
 basic_block-returned-requires-clause-counted t c =
     let o = c.requires.ongoing in
-    let (w, u, G) = passes_gone (passes_block o.state c.args.w.block c.start_of-from.ensures c.stop_of-end.ensures (c.pass_items-r.ensures o.state o.holds)) c.if-r-ne0.false in
-    (spoken_told o.spoken G.lines).counted
+    let (w, u, G, T) = passes_gone (passes_block o.state c.args.w.block c.start_of-from.ensures c.stop_of-end.ensures (c.in_ok-q.ensures o.state o.holds)) in
+    (spoken_told o.spoken T).counted
 
-pub basic_block-returns-then-op_of-eq11 : goal.basic_block-returns-then-op_of-eq11
-basic_block-returns-then-op_of-eq11 t c = λ m E R N H.
+pub basic_block-returns-then-op_of-eq-RETURN : goal.basic_block-returns-then-op_of-eq-RETURN
+basic_block-returns-then-op_of-eq-RETURN t c = λ m E R N H.
     let a = c.args in
     let p = c.requires in
     let e = c.stop_of-end.ensures in
-    let (w, u, G) = passes_gone (passes_block E a.w.block c.start_of-from.ensures e (c.pass_items-r.ensures E H)) c.if-r-ne0.false in
-    enter_over a.w.left p.come.known E m (formed_accepted p.accepted.formed) u G.lines (ap (λ (i : ℕ). i - 1) e)
-    (returns_is _ _ (ap (λ (i : ℕ). op a.fun.now (i - 1)) (sym e) ∙ sym c.op_of.ensures ∙ c.if-op_of-eq11.true)) R N (c.returned.ensures w.0 G.state)
+    let (w, u, G, T) = passes_gone (passes_block E a.w.block c.start_of-from.ensures e (c.in_ok-q.ensures E H)) in
+    enter_over a.w.left p.come.known E m (formed_accepted p.accepted.formed) u T (ap (λ (i : ℕ). i - 1) e)
+    (returns_is _ _ (ap (λ (i : ℕ). op a.fun.now (i - 1)) (sym e) ∙ sym c.op_of.ensures ∙ c.if-op_of-eq-RETURN.true)) R N (c.returned.ensures w.0 G)
 
 pub basic_block-terminator-requires : goal.basic_block-terminator-requires
 basic_block-terminator-requires t c =
@@ -83,11 +86,11 @@ basic_block-terminator-requires t c =
     let p = c.requires in
     let o = p.ongoing in
     let r = a.o.recording in
-    let (w, u, G) = passes_gone (passes_block o.state a.w.block c.start_of-from.ensures c.stop_of-end.ensures (c.pass_items-r.ensures o.state o.holds)) c.if-r-ne0.false in
-    let S = spoken_told o.spoken G.lines in
+    let (w, u, G, T) = passes_gone (passes_block o.state a.w.block c.start_of-from.ensures c.stop_of-end.ensures (c.in_ok-q.ensures o.state o.holds)) in
+    let S = spoken_told o.spoken T in
     let m = telling r w.1 o.memory in
     let e = enters_departs a.types.now a.fun.now r a.w.left a.w.block p.come.known o.state o.memory u
-    (returns_not _ _ (λ d. c.if-op_of-eq11.false (c.op_of.ensures ∙ ap (λ (i : ℕ). op a.fun.now (i - 1)) c.stop_of-end.ensures ∙ d))) in (
+    (returns_not _ _ (λ d. c.if-op_of-eq-RETURN.false (c.op_of.ensures ∙ ap (λ (i : ℕ). op a.fun.now (i - 1)) c.stop_of-end.ensures ∙ d))) in (
       omega (arith, c.decreases),
       (
         p.accepted,
@@ -99,7 +102,7 @@ basic_block-terminator-requires t c =
               is = told_remembers r w.1 o.is;
               spoken = spoken_own S;
               state = w.0;
-              holds = G.state;
+              holds = G;
               goes = λ d. o.goes (e ∙ subst (λ (b : Bool). departs a.types.now a.fun.now b a.w.left a.w.block w.0 m ≡ refused 0) S.pen d);
             },
             p.come,
@@ -113,12 +116,12 @@ basic_block-returns t c = λ m E R N H.
     let a = c.args in
     let p = c.requires in
     let r = a.o.recording in
-    let (w, u, G) = passes_gone (passes_block E a.w.block c.start_of-from.ensures c.stop_of-end.ensures (c.pass_items-r.ensures E H)) c.if-r-ne0.false in
-    let S = spoken_told N G.lines in
-    enter_leave a.w.left p.come.known E m (formed_accepted p.accepted.formed) u G.lines
-    (returns_not _ _ (λ d. c.if-op_of-eq11.false (c.op_of.ensures ∙ ap (λ (i : ℕ). op a.fun.now (i - 1)) c.stop_of-end.ensures ∙ d)))
+    let (w, u, G, T) = passes_gone (passes_block E a.w.block c.start_of-from.ensures c.stop_of-end.ensures (c.in_ok-q.ensures E H)) in
+    let S = spoken_told N T in
+    enter_leave a.w.left p.come.known E m (formed_accepted p.accepted.formed) u T
+    (returns_not _ _ (λ d. c.if-op_of-eq-RETURN.false (c.op_of.ensures ∙ ap (λ (i : ℕ). op a.fun.now (i - 1)) c.stop_of-end.ensures ∙ d)))
     (visits_pen (λ b. departs a.types.now a.fun.now b a.w.left a.w.block w.0 (telling r w.1 m)) S.pen
-    (c.terminator.ensures (telling r w.1 m) w.0 (told_remembers r w.1 R) (spoken_own S) G.state))
+    (c.terminator.ensures (telling r w.1 m) w.0 (told_remembers r w.1 R) (spoken_own S) G))
 
 -- A JUMP
 
@@ -186,61 +189,58 @@ goto-returns t c = λ m E R N H.
 item_holds : {fn : List ℕ} {b i e : ℕ} → b < nblocks fn → start fn b ≤ i → i < e → e ≡ stop fn b → InBlock fn b i
 item_holds k l h e = record { block = k; low = l; high = omega (arith, h, e) }
 
-pub terminator-returns-in-Refused : goal.terminator-returns-in-Refused
-terminator-returns-in-Refused t c = λ m E R N H.
-    visits_refused (rw ((c.plan_of-p.ensures E H).refuses _ c.in-Refused.is) refl) (alike_same _) refl
+pub terminator-returns-in_err-p : goal.terminator-returns-in_err-p
+terminator-returns-in_err-p t c =
+    let r = err_from_is_err_and c.from_residual.result c.from_residual.ensures.1 in
+    rw (r.1, r.2) (λ m E R N H. visits_refused (rw ((c.in_err-p.ensures E H).refuses _ refl) refl) (alike_same _) refl)
 
 pub terminator-loop-i-init : goal.terminator-loop-i-init
 terminator-loop-i-init t c =
-    let p = c.requires in
-    let z = c.start_of-i.ensures in
-    let l = p.come.known in (
+    let p = c.requires in (
       record {
-        low = omega (arith, z);
-        high = omega (arith, z, (formed_accepted p.accepted.formed).starts _ l);
         alike = alike_same _;
         same = refl;
-        left = λ m E R N H. rw z (left_start l (c.plan_of-p.ensures E H) c.in_default.not-Refused R N);
+        left = λ m E R N H. rw c.start_of-i.ensures (left_start p.come.known (c.in_ok-p.ensures E H) R N);
       },
       refl,
     )
 
-pub terminator-op_of-requires : goal.terminator-op_of-requires
-terminator-op_of-requires t c =
-    let p = c.requires in
-    record { laid = p.accepted.formed.laid; i_bound = omega (arith, c.loop-i-test.true, c.stop_of-end.ensures, stop_inside (formed_accepted p.accepted.formed) c.args.w.block) }
+-- the item at hand
+at_hand : {t : ℕ} (c : terminator-In-loop-i t) → InBlock c.args.fun.now c.args.w.block c.loop-i.i
+at_hand c = item_holds c.requires.come.known (omega (arith, c.start_of-i.ensures)) c.loop-i-test.true c.stop_of-i-end.ensures
+
+pub terminator-op_of-requires-clause-i_bound : goal.terminator-op_of-requires-clause-i_bound
+terminator-op_of-requires-clause-i_bound t c =
+    omega (arith, c.loop-i-test.true, c.stop_of-i-end.ensures, stop_inside (formed_accepted c.requires.accepted.formed) c.args.w.block)
 
 pub terminator-target_state-u-requires : goal.terminator-target_state-u-requires
 terminator-target_state-u-requires t c =
     let p = c.requires in
     let A = formed_accepted p.accepted.formed in
     let h = p.ongoing in
-    let I = c.loop-i.invariant.0 in
-    let b = item_holds p.come.known I.low c.loop-i-test.true c.stop_of-end.ensures in
-    let d = sym c.op_of.ensures ∙ c.if-op_of-eq10.true in
-    let N = left_next (I.left h.memory h.state h.is h.spoken h.holds) b.high d in
-    let P = c.plan_of-p.ensures _ h.holds in
+    let b = at_hand (goal.at.terminator-target_state-u-requires t c).In-loop-i in
+    let d = sym c.op_of.ensures ∙ c.if-op_of-eq-TARGET.true in
+    let N = left_next (c.loop-i.invariant.0.left h.memory h.state h.is h.spoken h.holds) b.high d in
+    let P = c.in_ok-p.ensures _ h.holds in
     record {
       accepted = p.accepted;
       i_bound = omega (arith, b.high, stop_inside A c.args.w.block);
       stated = stated h;
-      leaves = record { state = h.state; holds = h.holds; sound = P.sound; behind = target_behind A p.come.known b d P; left = N.state; leaves = N.by };
+      leaves = record { state = h.state; holds = h.holds; sound = P.sound _ refl; behind = target_behind A p.come.known b d P; left = N.state; leaves = N.by };
     }
 
-pub terminator-arg_of-requires : goal.terminator-arg_of-requires
-terminator-arg_of-requires t c =
-    let p = c.requires in
-    record { laid = p.accepted.formed.laid; i_bound = omega (arith, c.loop-i-test.true, c.stop_of-end.ensures, stop_inside (formed_accepted p.accepted.formed) c.args.w.block) }
+pub terminator-arg_of-requires-clause-i_bound : goal.terminator-arg_of-requires-clause-i_bound
+terminator-arg_of-requires-clause-i_bound t c =
+    omega (arith, c.loop-i-test.true, c.stop_of-i-end.ensures, stop_inside (formed_accepted c.requires.accepted.formed) c.args.w.block)
 
-pub terminator-goto-v-requires : goal.terminator-goto-v-requires
-terminator-goto-v-requires t c =
+pub terminator-goto-requires : goal.terminator-goto-requires
+terminator-goto-requires t c =
     let p = c.requires in
     let h = p.ongoing in
-    let I = c.loop-i.invariant.0 in
-    let b = item_holds p.come.known I.low c.loop-i-test.true c.stop_of-end.ensures in
-    let d = sym c.op_of.ensures ∙ c.if-op_of-eq10.true in
-    let aim = c.wide.ensures ∙ c.arg_of.ensures in
-    let L = I.left h.memory h.state h.is h.spoken h.holds in
+    let b = at_hand (goal.at.terminator-goto-requires t c).In-loop-i in
+    let d = sym c.op_of.ensures ∙ c.if-op_of-eq-TARGET.true in
+    let aim = c.arg_of.ensures in
+    let L = c.loop-i.invariant.0.left h.memory h.state h.is h.spoken h.holds in
     let N = left_next L b.high d in (
       omega (arith, c.decreases),
       (
@@ -262,41 +262,36 @@ terminator-goto-v-requires t c =
       ),
     )
 
-pub terminator-returns-in-Refused-v : goal.terminator-returns-in-Refused-v
-terminator-returns-in-Refused-v t c = λ m E R M H.
-    let I = c.loop-i.invariant.0 in
-    let b = item_holds c.requires.come.known I.low c.loop-i-test.true c.stop_of-end.ensures in
-    let L = I.left m E R M H in
-    let N = left_next L b.high (sym c.op_of.ensures ∙ c.if-op_of-eq10.true) in
-    left_refused L N (c.wide.ensures ∙ c.arg_of.ensures) c.in-Refused-v.is
-    (c.goto-v.ensures L.memory N.state L.is (spoken_own L.spoken) (c.target_state-u.ensures E H N.state N.by))
+pub terminator-returns-in_err-q : goal.terminator-returns-in_err-q
+terminator-returns-in_err-q t c =
+    let r = err_from_is_err_and c.from_residual-in_err-q.result c.from_residual-in_err-q.ensures.1 in
+    rw (r.1, r.2) (λ m E R M H.
+    let b = at_hand (goal.at.terminator-returns-in_err-q t c).In-loop-i in
+    let L = c.loop-i.invariant.0.left m E R M H in
+    let N = left_next L b.high (sym c.op_of.ensures ∙ c.if-op_of-eq-TARGET.true) in
+    left_refused L N c.arg_of.ensures (c.in_err-q.ensures L.memory N.state L.is (spoken_own L.spoken) (c.target_state-u.ensures E H N.state N.by)))
 
 pub terminator-loop-i-preserved : goal.terminator-loop-i-preserved
 terminator-loop-i-preserved t c =
     let I = c.loop-i.invariant.0 in
-    let h = (item_holds c.requires.come.known I.low c.loop-i-test.true c.stop_of-end.ensures).high in
-    elim c.if-op_of-eq10.branch [
-      | terminator-then-op_of-eq10+in-Over w ↦ rw (w.memo-is, w.waits-is, w.forms-is, w.whats-is, w.out-is, w.q-is) (
+    let h = (at_hand (goal.at.terminator-loop-i-preserved t c).In-loop-i).high in
+    elim c.if-op_of-eq-TARGET.branch [
+      | terminator-then-op_of-eq-TARGET+in_ok-q w ↦ rw (w.memo-is, w.waits-is, w.forms-is, w.whats-is, w.out-is, w.q-is) (
         record {
-          low = omega (arith, I.low);
-          high = omega (arith, h);
-          alike = alike_then I.alike (alike_in c.loop-i.memo w.goto-v.new.memo w.goto-v.auto.memo w.goto-v.auto.waits w.goto-v.auto.forms w.goto-v.auto.whats);
-          same = w.goto-v.auto.out ∙ I.same;
+          alike = alike_then I.alike (alike_in c.loop-i.memo w.goto.new.memo w.goto.auto.memo w.goto.auto.waits w.goto.auto.forms w.goto.auto.whats);
+          same = w.goto.auto.out ∙ I.same;
           left = λ m E R S H.
               let L = I.left m E R S H in
-              let N = left_next L h (sym c.op_of.ensures ∙ w.if-op_of-eq10.true) in
-              left_over L N (w.wide.ensures ∙ w.arg_of.ensures) w.in-Over.is
-              (w.goto-v.ensures L.memory N.state L.is (spoken_own L.spoken) (w.target_state-u.ensures E H N.state N.by));
+              let N = left_next L h (sym c.op_of.ensures ∙ w.if-op_of-eq-TARGET.true) in
+              left_over L N w.arg_of.ensures (w.in_ok-q.ensures L.memory N.state L.is (spoken_own L.spoken) (w.target_state-u.ensures E H N.state N.by));
         },
-        w.goto-v.auto.memo ∙ c.loop-i.invariant.1,
+        w.goto.auto.memo ∙ c.loop-i.invariant.1,
       )
-      | terminator-else-op_of-eq10 w ↦ rw (w.memo-is, w.waits-is, w.forms-is, w.whats-is, w.out-is, w.q-is) (
+      | terminator-else-op_of-eq-TARGET w ↦ rw (w.memo-is, w.waits-is, w.forms-is, w.whats-is, w.out-is, w.q-is) (
         record {
-          low = omega (arith, I.low);
-          high = omega (arith, h);
           alike = I.alike;
           same = I.same;
-          left = λ m E R S H. left_skip (I.left m E R S H) h (λ d. w.if-op_of-eq10.false (c.op_of.ensures ∙ d));
+          left = λ m E R S H. left_skip (I.left m E R S H) h (λ d. w.if-op_of-eq-TARGET.false (c.op_of.ensures ∙ d));
         },
         c.loop-i.invariant.1,
       )
@@ -304,4 +299,4 @@ terminator-loop-i-preserved t c =
 
 pub terminator-returns : goal.terminator-returns
 terminator-returns t c = λ m E R N H.
-    left_end (c.loop-i.invariant.0.left m E R N H) (omega (arith, c.loop-i-test.false, c.stop_of-end.ensures))
+    left_end (c.loop-i.invariant.0.left m E R N H) (omega (arith, c.loop-i-test.false, c.stop_of-i-end.ensures))

@@ -1,9 +1,8 @@
 -- The measures of {basic_block, goto, terminator}: three times the blocks that the way has not entered, one more for `terminator` and two
 -- for `basic_block`; and what the loop of `terminator` keeps.
 use mathlib.Core.Path.{◌≡◌}
-use Prim.Native.Nat.{◌+◌, ◌-◌, ◌*◌}
+use Prim.Native.Nat.{◌+◌, ◌*◌}
 use lib.ListN.{length}
-use Rattle.state.specs.Value.{state_in}
 use Rattle.arrival.specs.Shares.{arrays_in}
 use Rattle.visit.proofs.Leaving.{Onward}
 use Rattle.visit.proofs.block.+basic_block_goto_terminator.Given as goal
@@ -23,9 +22,6 @@ decreases-terminator l = 3 * l.w.left + 1
 -- the way left, from whatever memory the arrays and the buffer had
 abbrev pub invariant-terminator-loop-i : goal.invariant-terminator-loop-i
 invariant-terminator-loop-i l =
-    Onward l.types l.fun l.initial.q.recording l.w.left l.w.block (state_in l.fs l.ws l.n) l.p
+    Onward l.types l.fun l.initial.q.recording l.w.left l.w.block l.s l.p
     (arrays_in l.initial.memo l.initial.waits l.initial.forms l.initial.whats) l.initial.out l.initial.q (arrays_in l.memo l.waits l.forms l.whats) l.out l.q l.i
     × (length l.memo ≡ length l.initial.memo)
-
-abbrev pub decreases-terminator-loop-i : goal.decreases-terminator-loop-i
-decreases-terminator-loop-i l = l.end - l.i

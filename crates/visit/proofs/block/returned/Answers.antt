@@ -12,7 +12,7 @@ use Rattle.blocks.proofs.Spots.{formed_accepted}
 use Rattle.statements.specs.Kept.{point_of, Puts}
 use Rattle.statements.specs.declared.Out.{Out}
 use Rattle.collectors.specs.Trail.{lines_of, root}
-use Rattle.collect.specs.Answers.{HeldIn}
+use Rattle.collect.specs.Answers.{Held}
 use Rattle.statements.proofs.Puts.{alike_at, alike_same, counted_alike, puts_alike}
 use Rattle.arrival.proofs.Stored.{accepted_locals}
 use Rattle.arrival.proofs.Heard.{puts_tells}
@@ -25,12 +25,12 @@ collect_folds_at_ret-requires c =
     let l = c.local_types.ensures in
     let A = formed_accepted p.accepted.formed in
     let few : c.nargs.result < length c.local_types.result.now = omega (arith, A.few_args, c.nargs.ensures, ap length l, length_local_types A) in
-    let held : HeldIn a.types.now c.local_types.result.now a.forms.now a.whats.now = (a.n, (p.stated.state, rw l p.stated.holds)) in
+    let held : Held a.types.now c.local_types.result.now a.s.now = (p.stated.state, rw l p.stated.holds) in
     record {
       ready = p.accepted.ready;
       locals_value = rw l (accepted_locals p.accepted);
       a_in_bounds = few;
-      held_in = held;
+      held_in = (a.s.now.nodes, held);
       counted = rw c.at_point.ensures (counted_alike (alike_at _ _) p.counted);
     }
 
@@ -38,7 +38,7 @@ pub returns-then-o : goal.returns-then-o
 returns-then-o c = λ E H.
     let a = c.args in
     let p = c.requires in
-    let P = c.collect_folds_at_ret.ensures a.n E (rw c.local_types.ensures H) in
+    let P = c.collect_folds_at_ret.ensures a.s.now.nodes E (rw c.local_types.ensures H) in
     let new = c.collect_folds_at_ret.new.out in
     let Q = subst₂ (λ (k : ℕ) (v : Out). Puts (length (folds_at_ret a.types.now k E)) a.out.now v new c.collect_folds_at_ret.result (lines_of (point_of v) (root 0) (folds_at_ret a.types.now k E)))
     c.nargs.ensures c.at_point.ensures P in

@@ -1,7 +1,6 @@
--- `walk::along::pass_open` meets its contract. The loop's invariant: open nodes lead from the tree at the start to the one at i. Assumes nothing.
+-- `walk::along::pass_open` meets its contract. The loop's invariant: open nodes lead from the tree at the start to the one at `here`. Assumes nothing.
 use mathlib.Core.List.{List}
-use Prim.Native.Nat.{ℕ, ◌-◌, ◌≤◌}
-use lib.ListN.{length}
+use Prim.Native.Nat.{ℕ, ◌≤◌}
 use Rattle.model.specs.Tree.{Tree}
 use Rattle.records.specs.Here.{Coded}
 use Rattle.walk.specs.Site.{extent, Midway}
@@ -13,8 +12,5 @@ pub record Turn (Γ fs ws ops args : List ℕ) (node typ at i t : ℕ) : Type 0 
   pub most : at ≤ extent ops args
   pub midway : (x : Tree) → Coded Γ fs ws node typ x → Midway Γ fs ws ops args node x at i t
 
-abbrev pub invariant-walk : goal.invariant-walk
-invariant-walk l = Turn l.types l.forms l.whats l.ops l.args l.node l.typ l.at l.i l.t
-
-abbrev pub decreases-walk : goal.decreases-walk
-decreases-walk l = length l.ops - l.at
+abbrev pub invariant-loop-at : goal.invariant-loop-at
+invariant-loop-at l = Turn l.types l.forms l.whats l.ops l.args l.node l.typ l.at l.here.node l.here.typ

@@ -1,5 +1,5 @@
 -- `walk::along::walk_along` meets its contract: open nodes, then types, then the index. Assumes nothing.
-use mathlib.Core.Path.{◌≡◌, sym, ◌∙◌, ap, subst}
+use mathlib.Core.Path.{◌≡◌, refl, sym, ◌∙◌, ap, subst}
 use mathlib.Core.Logic.{◌≢◌}
 use mathlib.Core.Bool.{true}
 use mathlib.Core.List.{List}
@@ -7,6 +7,8 @@ use mathlib.Core.Option.{some}
 use Prim.Native.Nat.{ℕ, ◌-◌, ◌<◌}
 use native.Mathlib.Omega.{arith}
 use lib.ListN.{length}
+use Rattle.std.specs.Prelude.{Result, Ok, Err}
+use Rattle.std.proofs.lemmas.Result.{err_from_is_err_and}
 use Rattle.model.specs.Answer.{Answer, refused}
 use Rattle.model.specs.Types.{ntypes, kind}
 use Rattle.model.specs.Tree.{Tree}
@@ -14,30 +16,34 @@ use Rattle.model.specs.Place.{Place, Spot, no_index}
 use Rattle.model.specs.Walk.{walk}
 use Rattle.model.specs.Calls.{spot_of}
 use Rattle.base.specs.Typed.{Typed}
+use Rattle.refusal.specs.Refusal.{number}
+use Rattle.refusal.specs.declared.Refusal.{Refusal}
 use Rattle.state.proofs.Fields.{ready_typed, ready_sized}
 use Rattle.walk.specs.Fresh.{folded, sprout}
 use Rattle.walk.specs.Site.{rest, extent, walked_from, led, onward, Passing, Site}
-use Rattle.walk.specs.declared.step.Opened.{Opened}
-use Rattle.walk.specs.declared.step.Opened.TheVariants.{To as Came, Refused as Barred}
+use Rattle.walk.specs.declared.step.Fresh.{Fresh}
 use Rattle.walk.specs.declared.along.Through.{Through}
 use Rattle.walk.specs.declared.along.Onward.{Onward}
-use Rattle.walk.specs.declared.along.Led.TheVariants.{To, Refused}
+use Rattle.type_record.specs.declared.kinds.Kind.TheVariants.{Array}
+use Rattle.walk.proofs.KindTests.{ne_false, ne_true}
 use Rattle.walk.proofs.Ways.{length_route}
 use Rattle.walk.proofs.Places.{rest_place, Stopped, extent_stopped, extent_plain, extent_last, extent_far}
 use Rattle.walk.proofs.Sites.{plain_from, passing_refused, passing_arrives, sprung_to, stopped_walk, stopped_barred}
 use Rattle.walk.proofs.along.walk_along.Goals as goal
+use Rattle.walk.proofs.along.walk_along.Goals.{else-on-ops-via-then-on-ops+else-ne, else-on-ops-via-else-on-ops}
 
 -- types lead on
-led_to : (n : ℕ) (o : Opened) {g : Onward} → led n o ≡ To g → (n ≡ g.walked) × (o ≡ Came g.fresh)
-led_to n (Came f) {g} d =
+led_to : (n : ℕ) (o : Result Fresh Refusal) {g : Onward} → led n o ≡ Ok g → (n ≡ g.walked) × (o ≡ Ok g.fresh)
+led_to n (Ok f) {g} d =
     let e : record { walked = n; fresh = f } ≡ g = cc in
-    (ap (λ (k : Onward). k.walked) e, ap (λ (k : Onward). Came k.fresh) e)
-led_to n (Barred r) d = let z : ◌≡◌ {A = ℕ} 0 1 = cc in absurd (omega arith)
+    let k : f ≡ g.fresh = ap (λ (k : Onward). k.fresh) e in
+    (ap (λ (k : Onward). k.walked) e, cc)
+led_to n (Err r) d = cc
 
 -- or refuse
-led_refused : (n : ℕ) (o : Opened) {r : ℕ} → led n o ≡ Refused r → o ≡ Barred r
-led_refused n (Came f) d = let z : ◌≡◌ {A = ℕ} 0 1 = cc in absurd (omega arith)
-led_refused n (Barred r) d = cc
+led_refused : (n : ℕ) (o : Result Fresh Refusal) {r : Refusal} → led n o ≡ Err r → o ≡ Err r
+led_refused n (Ok f) d = cc
+led_refused n (Err r) d = cc
 
 -- the walk of the items is that of the place
 placed : (ops args : List ℕ) {q : Spot} → spot_of ops args ≡ some q → (Γ : List ℕ) (x : Tree) {r : ℕ}
@@ -56,18 +62,18 @@ module _ {Γ fs ws ops args : List ℕ} {i : ℕ} {x : Tree} {th : Through} (h :
   plain = plain_from ops args th.at (extent ops args) P.least P.most (extent_plain ops args is)
 
   -- a refusal by types is the walk's
-  onward_refused : {r : ℕ} → onward Γ ops args th.at th.typ ≡ Refused r
-      → (act : Tree → Answer Tree) → walk Γ act q.place x ≡ refused r
+  onward_refused : {r : Refusal} → onward Γ ops args th.at th.typ ≡ Err r
+      → (act : Tree → Answer Tree) → walk Γ act q.place x ≡ refused (number r)
   onward_refused d = placed ops args is Γ x (passing_refused P h stopped.most plain (led_refused (extent ops args) (sprout Γ (folded th.typ 0) (walked_from ops args th.at)) d))
 
   -- types lead from there to g
-  module _ {g : Onward} (d : onward Γ ops args th.at th.typ ≡ To g) where
+  module _ {g : Onward} (d : onward Γ ops args th.at th.typ ≡ Ok g) where
     -- as far as the place is walked
     all : extent ops args ≡ g.walked
     all = (led_to (extent ops args) (sprout Γ (folded th.typ 0) (walked_from ops args th.at)) d).0
 
     -- by these elements
-    grown : sprout Γ (folded th.typ 0) (walked_from ops args th.at) ≡ Came g.fresh
+    grown : sprout Γ (folded th.typ 0) (walked_from ops args th.at) ≡ Ok g.fresh
     grown = (led_to (extent ops args) (sprout Γ (folded th.typ 0) (walked_from ops args th.at)) d).1
 
     -- to a type of the record
@@ -100,32 +106,33 @@ module _ {Γ fs ws ops args : List ℕ} {i : ℕ} {x : Tree} {th : Through} (h :
           array = λ z e act. stopped_walk Γ (rest ops args (extent ops args)) (extent_last ops args is) z (λ l. ap (kind Γ) e ∙ k (omega (arith, left))) act;
         })
 
-pub pass_folded-o-requires : goal.pass_folded-o-requires
-pass_folded-o-requires c =
-    let P = c.in-To.ensures c.requires.here.tree c.requires.here.coded in record { ready = c.requires.ready; typ_bound = P.midway.known; short = c.requires.short; range = (P.least, P.most) }
-
-pub kind_of-requires : goal.kind_of-requires
-kind_of-requires c =
-    record { sized = ready_sized c.requires.ready; t_bound = known (ready_typed c.requires.ready) c.requires.short.is (c.in-To.ensures c.requires.here.tree c.requires.here.coded) (sym c.in-To-o.ensures) }
-
-pub returns-then-kind_of-ne4 : goal.returns-then-kind_of-ne4
-returns-then-kind_of-ne4 c =
-    λ x q h is. barred (ready_typed c.requires.ready) is (c.in-To.ensures x h) (sym c.in-To-o.ensures) c.if-g-ops.true (λ e. c.if-kind_of-ne4.true (c.kind_of.ensures ∙ e))
-
-pub returns-in-Refused : goal.returns-in-Refused
-returns-in-Refused c =
+pub returns-in_err-th : goal.returns-in_err-th
+returns-in_err-th c =
     let a = c.args in
-    λ x q h is. placed a.ops.now a.args.now is a.types.now x
-    (c.in-Refused.ensures x h)
+    let p = err_from_is_err_and c.from_residual.result c.from_residual.ensures.1 in
+    rw (p.1, p.2) (λ x q h is. placed a.ops.now a.args.now is a.types.now x (c.in_err-th.ensures x h))
 
-pub returns-in-Refused-o : goal.returns-in-Refused-o
-returns-in-Refused-o c =
-    λ x q h is. onward_refused (ready_typed c.requires.ready) is (c.in-To.ensures x h) (sym c.in-Refused-o.ensures)
+pub returns-in_err-on : goal.returns-in_err-on
+returns-in_err-on c =
+    let p = err_from_is_err_and c.from_residual-in_err-on.result c.from_residual-in_err-on.ensures.1 in
+    rw (p.1, p.2) (λ x q h is. onward_refused (ready_typed c.requires.ready) is (c.in_ok-th.ensures x h) (sym c.in_err-on.ensures))
 
-pub returns-else-kind_of-ne4 : goal.returns-else-kind_of-ne4
-returns-else-kind_of-ne4 c =
-    λ x q h is. site (ready_typed c.requires.ready) is (c.in-To.ensures x h) (sym c.in-To-o.ensures) (λ l. sym c.kind_of.ensures ∙ c.if-kind_of-ne4.false)
+pub kind_at-requires : goal.kind_at-requires
+kind_at-requires c =
+    record {
+      sized = ready_sized c.requires.ready;
+      t_bound = known (ready_typed c.requires.ready) c.requires.short.is (c.in_ok-th.ensures c.requires.here.tree c.requires.here.coded) (sym c.in_ok-on.ensures);
+    }
 
-pub returns-else-g-ops : goal.returns-else-g-ops
-returns-else-g-ops c =
-    λ x q h is. site (ready_typed c.requires.ready) is (c.in-To.ensures x h) (sym c.in-To-o.ensures) (λ l. absurd (omega arith))
+pub returns-then-ne : goal.returns-then-ne
+returns-then-ne c =
+    λ x q h is. barred (ready_typed c.requires.ready) is (c.in_ok-th.ensures x h) (sym c.in_ok-on.ensures) c.if-on-ops.true
+    (ne_true _ c.kind_at.ensures Array c.ne.ensures c.if-ne.true refl)
+
+pub returns : goal.returns
+returns c =
+    λ x q h is. site (ready_typed c.requires.ready) is (c.in_ok-th.ensures x h) (sym c.in_ok-on.ensures) (λ l.
+    elim c.else-on-ops.branch [
+      | else-on-ops-via-then-on-ops+else-ne w ↦ ne_false _ w.kind_at.ensures Array w.ne.ensures w.if-ne.false refl
+      | else-on-ops-via-else-on-ops w ↦ absurd (omega arith)
+    ])

@@ -1,16 +1,11 @@
 -- `walk::apply::distance` meets its contract. Assumes nothing.
 use mathlib.Core.Path.{sym, ◌∙◌, ap}
 use mathlib.Core.Logic.{◌≢◌}
-use Prim.Native.Nat.{ℕ, ◌+◌}
 use native.Mathlib.Numerals.{one-add}
 use native.Mathlib.Omega.{arith}
 use Rattle.walk.specs.Fresh.{distance}
 use Rattle.walk.proofs.Items.{elem_deref, elem_field, distance_other}
 use Rattle.walk.proofs.apply.distance.Goals as goal
-
-pub overflow_add-result : goal.overflow_add-result
-overflow_add-result c =
-    omega (arith, c.wide.ensures, c.ranges.arg)
 
 pub returns-in-1 : goal.returns-in-1
 returns-in-1 c =
@@ -20,7 +15,7 @@ returns-in-1 c =
 pub returns-in-2 : goal.returns-in-2
 returns-in-2 c =
     let a = c.args in
-    ap (λ (n : ℕ). 1 + n) c.wide.ensures ∙ one-add a.arg ∙ sym (ap distance (elem_field a.op a.arg c.in-2.is))
+    one-add a.arg ∙ sym (ap distance (elem_field a.op a.arg c.in-2.is))
 
 pub returns-in_default : goal.returns-in_default
 returns-in_default c =

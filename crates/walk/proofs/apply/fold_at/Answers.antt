@@ -29,13 +29,11 @@ pub close_up-requires-2 : goal.close_up-requires-2
 close_up-requires-2 c =
     let E = c.requires.folds.coded in record { gapped = ends c.requires.folds c.node_end-e.ensures; padded = ((encoded_long E).1, (encoded_fronted E).1) }
 
-pub overflow_sub-result : goal.overflow_sub-result
-overflow_sub-result c =
-    omega (arith, ends c.requires.folds c.node_end-e.ensures)
+pub overflow_sub-s-2 : goal.overflow_sub-s-2
+overflow_sub-s-2 c = omega (arith, ends c.requires.folds c.node_end-e.ensures)
 
-pub overflow_sub-result-2 : goal.overflow_sub-result-2
-overflow_sub-result-2 c =
-    omega (arith, ends c.requires.folds c.node_end-e.ensures)
+pub overflow_sub-s-3 : goal.overflow_sub-s-3
+overflow_sub-s-3 c = omega (arith, ends c.requires.folds c.node_end-e.ensures)
 
 pub returns : goal.returns
 returns c =

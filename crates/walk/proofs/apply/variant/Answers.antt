@@ -6,13 +6,13 @@ use Rattle.walk.specs.Fresh.{variant}
 use Rattle.walk.proofs.Items.{elem_cast, variant_other}
 use Rattle.walk.proofs.apply.variant.Goals as goal
 
+pub overflow_cast-result : goal.overflow_cast-result
+overflow_cast-result c =
+    let v : variant (elem_of c.args.op c.args.arg) ≡ c.args.arg = ap variant (elem_cast c.args.op c.args.arg c.if-op-eq-DOWNCAST.true) in
+    omega (arith, c.requires)
+
 pub returns-then-op-eq-DOWNCAST : goal.returns-then-op-eq-DOWNCAST
-returns-then-op-eq-DOWNCAST c =
-    let a = c.args in
-    let v : variant (elem_of a.op a.arg) ≡ a.arg = ap variant (elem_cast a.op a.arg c.if-op-eq-DOWNCAST.true) in
-    omega (arith, v, c.requires)
+returns-then-op-eq-DOWNCAST c = sym (ap variant (elem_cast c.args.op c.args.arg c.if-op-eq-DOWNCAST.true))
 
 pub returns-else-op-eq-DOWNCAST : goal.returns-else-op-eq-DOWNCAST
-returns-else-op-eq-DOWNCAST c =
-    let a = c.args in
-    sym (variant_other a.op a.arg c.if-op-eq-DOWNCAST.false)
+returns-else-op-eq-DOWNCAST c = sym (variant_other c.args.op c.args.arg c.if-op-eq-DOWNCAST.false)

@@ -1,35 +1,34 @@
 -- `walk::step::step_unfold` meets its contract, case by case. Assumes nothing.
-use mathlib.Core.Path.{refl, sym, ◌∙◌, ap}
-use Prim.Native.Nat.{ℕ, ◌+◌}
+use mathlib.Core.Path.{refl}
 use native.Mathlib.Omega.{arith}
-use Rattle.model.specs.Types.{shut}
 use Rattle.state.proofs.Fields.{ready_sized, ready_typed}
-use Rattle.walk.specs.Fresh.{widened}
-use Rattle.walk.specs.declared.step.Opened.TheVariants.{To}
+use Rattle.type_record.specs.declared.kinds.Kind.TheVariants.{Enum}
+use Rattle.type_record.proofs.KindLaws.{eq_true, eq_false}
+use Rattle.walk.proofs.KindTests.{shut_is}
 use Rattle.walk.proofs.Growing.{kids_few}
 use Rattle.walk.proofs.Grows.{folded_shut, folded_enum, folded_index}
 use Rattle.walk.proofs.step.step_unfold.Goals as goal
 
-pub kind_of-k-requires : goal.kind_of-k-requires
-kind_of-k-requires c = record { sized = ready_sized c.requires.ready; t_bound = c.requires.typ_bound }
+pub kind_at-k-requires-clause-sized : goal.kind_at-k-requires-clause-sized
+kind_at-k-requires-clause-sized c = ready_sized c.requires.ready
 
 pub returns-then-shut : goal.returns-then-shut
-returns-then-shut c =
-    folded_shut _ _ _ refl (ap shut (sym c.kind_of-k.ensures) ∙ sym c.shut.ensures ∙ c.if-shut.true)
+returns-then-shut c = folded_shut _ _ _ refl (shut_is _ c.kind_at-k.ensures c.shut.ensures c.if-shut.true)
 
-pub returns-then-k-eq7 : goal.returns-then-k-eq7
-returns-then-k-eq7 c =
-    folded_enum _ _ _ refl (ap shut (sym c.kind_of-k.ensures) ∙ sym c.shut.ensures ∙ c.if-shut.false) (sym c.kind_of-k.ensures ∙ c.if-k-eq7.true)
+pub returns-then-eq : goal.returns-then-eq
+returns-then-eq c =
+    let k = c.kind_at-k.ensures in
+    folded_enum _ _ _ refl (shut_is _ k c.shut.ensures c.if-shut.false) (eq_true _ Enum k c.eq.ensures c.if-eq.true refl)
 
-pub kid_count-requires : goal.kid_count-requires
-kid_count-requires c = record { types_value = c.requires.ready.typed; offsets = c.requires.ready.offsets; t_bound = c.requires.typ_bound; variant_of = λ e. absurd (c.if-k-eq7.false (c.kind_of-k.ensures ∙ e)) }
+pub kid_count-requires-clause-variant_of : goal.kid_count-requires-clause-variant_of
+kid_count-requires-clause-variant_of c = λ e. absurd (eq_false _ Enum c.kind_at-k.ensures c.eq.ensures c.if-eq.false refl e)
 
 pub overflow_add-result : goal.overflow_add-result
 overflow_add-result c =
-    omega (arith, c.kid_count.ensures, kids_few (ready_typed c.requires.ready) c.args.typ 0 c.requires.typ_bound (λ e. absurd (c.if-k-eq7.false (c.kind_of-k.ensures ∙ e))))
+    let few = kids_few (ready_typed c.requires.ready) c.args.typ 0 c.requires.typ_bound (λ e. absurd (eq_false _ Enum c.kind_at-k.ensures c.eq.ensures c.if-eq.false refl e)) in
+    omega (arith, c.kid_count.ensures, c.requires.added_bound)
 
 pub returns : goal.returns
 returns c =
-    let a = c.args in
-    ap (λ (n : ℕ). To (widened a.typ 0 (a.added + n))) c.kid_count.ensures
-    ∙ folded_index _ _ _ refl (ap shut (sym c.kind_of-k.ensures) ∙ sym c.shut.ensures ∙ c.if-shut.false) (λ e. c.if-k-eq7.false (c.kind_of-k.ensures ∙ e))
+    let k = c.kind_at-k.ensures in
+    rw c.kid_count.ensures (folded_index _ _ _ refl (shut_is _ k c.shut.ensures c.if-shut.false) (eq_false _ Enum k c.eq.ensures c.if-eq.false refl))

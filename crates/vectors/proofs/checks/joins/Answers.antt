@@ -1,0 +1,13 @@
+use Rattle.std.proofs.Common.{sym, ◌∙◌}
+use Rattle.base.specs.Equal.{zero_word}
+use Rattle.fold_unfold.proofs.Tested.{function_formed}
+use Rattle.vectors.proofs.checks.joins.Goals as goal
+
+pub places_ok-requires : goal.places_ok-requires
+places_ok-requires c = function_formed _ _ (sym c.check_function.ensures ∙ c.if-not-check_function.false)
+
+pub fill_join_points-requires-clause-formed : goal.fill_join_points-requires-clause-formed
+fill_join_points-requires-clause-formed c = function_formed _ _ (sym c.check_function.ensures ∙ c.if-not-check_function.false)
+
+pub fill_join_points-requires-clause-zeros : goal.fill_join_points-requires-clause-zeros
+fill_join_points-requires-clause-zeros c = zero_word 256
