@@ -22,7 +22,7 @@ use Rattle.state.specs.Spliced.{fronted}
 use Rattle.state.proofs.Fronted.{fronted_is}
 use Rattle.state.specs.Value.{value}
 use Rattle.state.specs.declared.nodes.State.{State}
-use Rattle.state.specs.Given.{Accepted}
+use Rattle.blocks.specs.Accepted.{Accepted}
 use Rattle.arrival.specs.Shares.{Full, Saved}
 
 -- the local types of a function record that passes

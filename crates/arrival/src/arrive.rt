@@ -5,15 +5,16 @@ ghost use Rattle.model.specs.Rounds.{put};
 ghost use Rattle.mir.specs.Sizes.{Formed};
 ghost use Rattle.refusal.specs.Refusal.{code};
 ghost use Rattle.statements.specs.Kept.{Counted};
-ghost use Rattle.state.specs.Given.{Accepted, Stated};
+ghost use Rattle.state.specs.Given.{Stated};
 ghost use Rattle.arrival.specs.Shares.{waits_in, BitFor};
 ghost use Rattle.arrival.specs.Arrivals.{Shelved, Filled, Arriving, Steady, Reconciling, Stands};
 
 use crate::jump::Jump;
 use crate::memory::{set_stored, stored, visited};
+use blocks::function::Function;
 use collect::states::collect_fold_unfolds;
 use join::trees::join_into;
-use mir::function::{local_types, rank_of};
+use mir::function::Record;
 use queue::insert;
 use refusal::Refusal;
 use state::nodes::State;
@@ -21,12 +22,12 @@ use state::share::{load_state, save_state};
 use statements::{Out, at_point, point_of};
 
 // The block c waits.
-fn wait(waits: &mut [u64], fun: &[u32], c: usize)
-    requires formed { Formed fun.now }
-    requires bit_for { BitFor fun.now c waits.old }
-    ensures { waits_in fun.now waits.new ≡ put (waits_in fun.now waits.old) c true }
+fn wait(waits: &mut [u64], fun: &Record, c: usize)
+    requires formed { Formed fun.now.words.now }
+    requires bit_for { BitFor fun.now.words.now c waits.old }
+    ensures { waits_in fun.now.words.now waits.new ≡ put (waits_in fun.now.words.now waits.old) c true }
 {
-    insert(waits, rank_of(fun, c));
+    insert(waits, fun.rank_of(c));
 }
 
 // Is the state the one that stands in this share, whose count is k?
@@ -41,9 +42,7 @@ fn stands(k: u32, s: State, forms: &[u16], whats: &[u16]) -> bool
 
 // The state is saved where none is stored, and joined with the one that is.
 fn merge(
-    types: &[u32],
-    offs: &[u32],
-    fun: &[u32],
+    fun: &Function,
     memo: &mut [u32],
     waits: &mut [u64],
     c: usize,
@@ -51,36 +50,33 @@ fn merge(
     forms: &mut [u16],
     whats: &mut [u16],
 ) -> Result<(), Refusal>
-    requires accepted { Accepted types.now offs.now fun.now }
-    requires stated { Stated types.now (local_types fun.now) s }
-    requires shelved { Shelved types.now fun.now memo.old forms.old whats.old c }
-    requires bit_for { BitFor fun.now c waits.old }
-    ensures arriving { Arriving types.now fun.now c s memo waits forms whats (code result) }
+    requires stated { Stated fun.now.types.words.now (local_types fun.now.record.words.now) s }
+    requires shelved { Shelved fun.now.types.words.now fun.now.record.words.now memo.old forms.old whats.old c }
+    requires bit_for { BitFor fun.now.record.words.now c waits.old }
+    ensures arriving { Arriving fun.now.types.words.now fun.now.record.words.now c s memo waits forms whats (code result) }
     ensures lengths { Steady memo waits forms whats }
 {
     let k = stored(memo, c);
     if k == 0 {
         save_state(s, forms, whats);
         set_stored(memo, c, s.nodes as u32 + 1);
-        wait(waits, fun, c);
+        wait(waits, &fun.record, c);
         return Ok(());
     }
     let old = load_state(forms, whats, k as usize - 1);
-    let Some(j) = join_into(types, offs, local_types(fun), old, s, forms, whats) else {
+    let Some(j) = join_into(&fun.types, fun.record.local_types(), old, s, forms, whats) else {
         return Err(Refusal::StateFull);
     };
     if j.changed {
         set_stored(memo, c, j.nodes as u32 + 1);
-        wait(waits, fun, c);
+        wait(waits, &fun.record, c);
     }
     Ok(())
 }
 
 // `Infer::goto_join_point`: the state arrives at the block c. A state that is stored there already changes nothing.
 pub fn arrive(
-    types: &[u32],
-    offs: &[u32],
-    fun: &[u32],
+    fun: &Function,
     memo: &mut [u32],
     waits: &mut [u64],
     c: usize,
@@ -88,25 +84,22 @@ pub fn arrive(
     forms: &mut [u16],
     whats: &mut [u16],
 ) -> Result<(), Refusal>
-    requires accepted { Accepted types.now offs.now fun.now }
-    requires stated { Stated types.now (local_types fun.now) s }
-    requires shelved { Shelved types.now fun.now memo.old forms.old whats.old c }
-    requires bit_for { BitFor fun.now c waits.old }
-    ensures arriving { Arriving types.now fun.now c s memo waits forms whats (code result) }
+    requires stated { Stated fun.now.types.words.now (local_types fun.now.record.words.now) s }
+    requires shelved { Shelved fun.now.types.words.now fun.now.record.words.now memo.old forms.old whats.old c }
+    requires bit_for { BitFor fun.now.record.words.now c waits.old }
+    ensures arriving { Arriving fun.now.types.words.now fun.now.record.words.now c s memo waits forms whats (code result) }
     ensures lengths { Steady memo waits forms whats }
 {
     let k = stored(memo, c);
     if stands(k, s, forms, whats) {
         return Ok(());
     }
-    merge(types, offs, fun, memo, waits, c, s, forms, whats)
+    merge(fun, memo, waits, c, s, forms, whats)
 }
 
 // `Elaboration::goto_join_point`: the statements from the state to the stored one are recorded at the jump's item, or at the entry.
 pub fn reconcile<'a>(
-    types: &[u32],
-    offs: &[u32],
-    fun: &[u32],
+    fun: &Function,
     memo: &[u32],
     waits: &mut [u64],
     j: Jump,
@@ -116,21 +109,20 @@ pub fn reconcile<'a>(
     out: &mut [u32],
     o: Out,
 ) -> Result<Out, Refusal>
-    requires accepted { Accepted types.now offs.now fun.now }
-    requires stated { Stated types.now (local_types fun.now) s }
-    requires filled { Filled types.now fun.now memo.now forms.now whats.now j.block }
-    requires bit_for { BitFor fun.now j.block waits.old }
-    requires item_bound { j.item < nitems fun.now }
+    requires stated { Stated fun.now.types.words.now (local_types fun.now.record.words.now) s }
+    requires filled { Filled fun.now.types.words.now fun.now.record.words.now memo.now forms.now whats.now j.block }
+    requires bit_for { BitFor fun.now.record.words.now j.block waits.old }
+    requires item_bound { j.item < nitems fun.now.record.words.now }
     requires counted { Counted out.old o }
-    ensures reconciling { Reconciling types.now fun.now j s memo.now forms.now whats.now waits out o result }
+    ensures reconciling { Reconciling fun.now.types.words.now fun.now.record.words.now j s memo.now forms.now whats.now waits out o result }
     ensures lengths { length waits.new ≡ length waits.old }
 {
     let k = stored(memo, j.block);
     let to = load_state(forms, whats, k as usize - 1);
     let p = at_point(o, point_of(j.item, j.entry));
-    let q = collect_fold_unfolds(types, offs, local_types(fun), s, to, out, p)?;
+    let q = collect_fold_unfolds(&fun.types, fun.record.local_types(), s, to, out, p)?;
     if !visited(memo, j.block) {
-        wait(waits, fun, j.block);
+        wait(waits, &fun.record, j.block);
     }
     Ok(q)
 }

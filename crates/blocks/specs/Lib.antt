@@ -1,2 +1,3 @@
 -- What the contracts cite beside the definitions of model and the parts of mir.
 pub mod Points
+pub mod Accepted

@@ -8,31 +8,31 @@ ghost use Rattle.refusal.specs.Refusal.{found};
 ghost use Rattle.blocks.specs.Points.{matched_read, switch_item, UsedAt};
 
 use crate::place::{root_before, uses_place};
-use mir::function::{args_from, op_of, ops_from, start_of, stop_of};
+use mir::function::Record;
 use mir::items::{NOTE, SWITCH};
 
 // Are the places that end before items i and j the same? root: the second's.
-fn same_place(fun: &[u32], i: usize, root: usize, j: usize) -> bool
-    requires formed { Formed fun.now }
-    requires used_at { UsedAt fun.now i }
-    requires used_at_2 { UsedAt fun.now j }
-    requires root_value { root ≡ root_before fun.now j }
-    ensures { result ≡ same_spot (spot_before fun.now i) (spot_before fun.now j) }
+fn same_place(fun: &Record, i: usize, root: usize, j: usize) -> bool
+    requires formed { Formed fun.now.words.now }
+    requires used_at { UsedAt fun.now.words.now i }
+    requires used_at_2 { UsedAt fun.now.words.now j }
+    requires root_value { root ≡ root_before fun.now.words.now j }
+    ensures { result ≡ same_spot (spot_before fun.now.words.now i) (spot_before fun.now.words.now j) }
 {
     let r = root_before(fun, i);
-    ops_from(fun, r, i) == ops_from(fun, root, j) && args_from(fun, r, i) == args_from(fun, root, j)
+    fun.ops_from(r, i) == fun.ops_from(root, j) && fun.args_from(r, i) == fun.args_from(root, j)
 }
 
 // The latest note of the place that ends before s, among the items of the block from lo on.
-fn latest_note(fun: &[u32], lo: usize, s: usize) -> Option<usize>
-    requires formed { Formed fun.now }
+fn latest_note(fun: &Record, lo: usize, s: usize) -> Option<usize>
+    requires formed { Formed fun.now.words.now }
     requires lo_le_s { lo ≤ s }
-    requires used_at { UsedAt fun.now s }
-    ensures { found result ≡ latest_note fun.now (spot_before fun.now s) lo (s - lo) }
+    requires used_at { UsedAt fun.now.words.now s }
+    ensures { found result ≡ latest_note fun.now.words.now (spot_before fun.now.words.now s) lo (s - lo) }
 {
     let root = root_before(fun, s);
     for j in (lo..s).rev() {
-        if op_of(fun, j) == NOTE && same_place(fun, j, root, s) {
+        if fun.op_of(j) == NOTE && same_place(fun, j, root, s) {
             return Some(j);
         }
     }
@@ -40,13 +40,13 @@ fn latest_note(fun: &[u32], lo: usize, s: usize) -> Option<usize>
 }
 
 // The block's switch.
-fn switch_of(fun: &[u32], b: usize) -> Option<usize>
-    requires formed { Formed fun.now }
-    requires b_bound { b < nblocks fun.now }
-    ensures { found result ≡ switch_item fun.now b }
+fn switch_of(fun: &Record, b: usize) -> Option<usize>
+    requires formed { Formed fun.now.words.now }
+    requires b_bound { b < nblocks fun.now.words.now }
+    ensures { found result ≡ switch_item fun.now.words.now b }
 {
-    for i in start_of(fun, b)..stop_of(fun, b) {
-        if op_of(fun, i) == SWITCH {
+    for i in fun.start_of(b)..fun.stop_of(b) {
+        if fun.op_of(i) == SWITCH {
             return Some(i);
         }
     }
@@ -54,15 +54,15 @@ fn switch_of(fun: &[u32], b: usize) -> Option<usize>
 }
 
 // The read whose place the block's switch matches on.
-pub fn matched(fun: &[u32], b: usize) -> Option<usize>
-    requires formed { Formed fun.now }
-    requires b_bound { b < nblocks fun.now }
-    ensures { found result ≡ matched_read fun.now b }
+pub fn matched(fun: &Record, b: usize) -> Option<usize>
+    requires formed { Formed fun.now.words.now }
+    requires b_bound { b < nblocks fun.now.words.now }
+    ensures { found result ≡ matched_read fun.now.words.now b }
 {
     let s = switch_of(fun, b)?;
     if !uses_place(fun, s) {
         return None;
     }
-    let j = latest_note(fun, start_of(fun, b), s)?;
+    let j = latest_note(fun, fun.start_of(b), s)?;
     Some(root_before(fun, j) - 1)
 }

@@ -4,11 +4,11 @@ ghost use Rattle.model.specs.Place.{usable, spot_ok, used_ok};
 ghost use Rattle.model.specs.Function.{nitems};
 ghost use Rattle.model.specs.Block.{root_before, uses_place, places_ok};
 ghost use Rattle.model.specs.Calls.{spot_of};
-ghost use Rattle.mir.specs.Sizes.{Laid, Formed};
+ghost use Rattle.mir.specs.Sizes.{Formed};
 ghost use Rattle.mir.specs.Parts.{Spotted, is_some, Tells};
 ghost use Rattle.blocks.specs.Points.{steps_in};
 
-use mir::function::{args_from, nitems, nlocals, op_of, ops_from};
+use mir::function::Record;
 use mir::items::{DOWNCAST, INDEX, ROOT, SWITCH, USE, is_element};
 
 pub const MOST_ELEMENTS: usize = 128;
@@ -50,24 +50,22 @@ pub fn used_ok(ops: &[u32], args: &[u32], locals: usize) -> bool
 
 // Does item i use a place? Use, read, note and switch do, but for a switch on a constant.
 #[tactic(auto, unfolding(model::specs::Block::uses_place))]
-pub fn uses_place(fun: &[u32], i: usize) -> bool
-    requires laid { Laid fun.now }
-    requires i_bound { i < nitems fun.now }
-    ensures { result ≡ uses_place fun.now i }
+pub fn uses_place(fun: &Record, i: usize) -> bool
+    requires i_bound { i < nitems fun.now.words.now }
+    ensures { result ≡ uses_place fun.now.words.now i }
 {
-    let o = op_of(fun, i);
-    USE <= o && o <= SWITCH && 0 < i && op_of(fun, i - 1) <= INDEX
+    let o = fun.op_of(i);
+    USE <= o && o <= SWITCH && 0 < i && fun.op_of(i - 1) <= INDEX
 }
 
 // The last root before item i.
 #[tactic(auto, using(crate::proofs::Spots::root_now, crate::proofs::Spots::root_kept))]
-pub fn root_before(fun: &[u32], i: usize) -> usize
-    requires laid { Laid fun.now }
-    requires i_bound { i ≤ nitems fun.now }
-    ensures { result ≡ root_before fun.now i }
+pub fn root_before(fun: &Record, i: usize) -> usize
+    requires i_bound { i ≤ nitems fun.now.words.now }
+    ensures { result ≡ root_before fun.now.words.now i }
 {
     for j in (0..i).rev() {
-        if op_of(fun, j) == ROOT {
+        if fun.op_of(j) == ROOT {
             return j;
         }
     }
@@ -76,25 +74,24 @@ pub fn root_before(fun: &[u32], i: usize) -> usize
 
 // The last root before item i + 1; root: the last before item i.
 #[tactic(auto, using(crate::proofs::Spots::root_now, crate::proofs::Spots::root_kept))]
-fn root_behind(fun: &[u32], root: usize, i: usize) -> usize
-    requires laid { Laid fun.now }
-    requires i_bound { i < nitems fun.now }
-    requires root_value { root ≡ root_before fun.now i }
-    ensures { result ≡ root_before fun.now (i + 1) }
+fn root_behind(fun: &Record, root: usize, i: usize) -> usize
+    requires i_bound { i < nitems fun.now.words.now }
+    requires root_value { root ≡ root_before fun.now.words.now i }
+    ensures { result ≡ root_before fun.now.words.now (i + 1) }
 {
-    if op_of(fun, i) == ROOT { i } else { root }
+    if fun.op_of(i) == ROOT { i } else { root }
 }
 
 // Refusal 4, over all places in item order.
-pub fn places_ok(fun: &[u32]) -> bool
-    requires { Formed fun.now }
-    ensures { result ≡ places_ok fun.now }
+pub fn places_ok(fun: &Record) -> bool
+    requires { Formed fun.now.words.now }
+    ensures { result ≡ places_ok fun.now.words.now }
 {
-    let l = nlocals(fun);
+    let l = fun.nlocals();
     let mut root = 0;
-    for i in 0..nitems(fun) {
+    for i in 0..fun.nitems() {
         root = root_behind(fun, root, i);
-        if uses_place(fun, i) && !used_ok(ops_from(fun, root, i), args_from(fun, root, i), l) {
+        if uses_place(fun, i) && !used_ok(fun.ops_from(root, i), fun.args_from(root, i), l) {
             return false;
         }
     }

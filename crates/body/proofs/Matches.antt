@@ -28,7 +28,8 @@ use Rattle.env.specs.declared.project.On.TheVariants.{Enum, Element}
 use Rattle.blocks.proofs.Spots.{formed_accepted, block_stop}
 use Rattle.blocks.proofs.Points.{Matched, matched_holds}
 use Rattle.body.specs.declared.arms.Subject.{Subject}
-use Rattle.state.specs.Given.{Accepted, Stated, InEach}
+use Rattle.blocks.specs.Accepted.{Accepted}
+use Rattle.state.specs.Given.{Stated, InEach}
 use Rattle.body.specs.Arms.{Sought}
 use Rattle.body.specs.Tries.{Matching, Blank}
 use Rattle.body.proofs.Variants.{count_few}

@@ -35,7 +35,7 @@ use Rattle.env.specs.There.{ProjectsThere}
 use Rattle.env.specs.declared.project.Projected.TheVariants.{Nothing, Fold, Unfold}
 use Rattle.env.specs.declared.project.Use.{Use}
 use Rattle.env.specs.declared.project.Usage.{Usage}
-use Rattle.state.specs.Given.{Accepted}
+use Rattle.blocks.specs.Accepted.{Accepted}
 use Rattle.statements.specs.Points.{point, Says, Tells}
 use Rattle.body.specs.Uses.{uses, Passes}
 use Rattle.body.proofs.Places.{place_spot, place_there}

@@ -19,7 +19,8 @@ use Rattle.state.specs.declared.nodes.State.{State}
 use Rattle.blocks.proofs.Spots.{used_in, used_read}
 use Rattle.env.specs.Given.{Asked}
 use Rattle.env.specs.There.{Wherever}
-use Rattle.state.specs.Given.{Accepted, Stated, InEach}
+use Rattle.blocks.specs.Accepted.{Accepted}
+use Rattle.state.specs.Given.{Stated, InEach}
 
 module _ {Γ os fn : List ℕ} (A : Accepted Γ os fn) {read : ℕ} (l : read < nitems fn) (u : uses_place fn read ≡ true) {r : ℕ} (e : r ≡ root_before fn read) where
   -- its items

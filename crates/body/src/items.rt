@@ -5,13 +5,13 @@ ghost use Rattle.model.specs.Function.{nitems, local_types};
 ghost use Rattle.model.specs.Block.{uses_place};
 ghost use Rattle.base.specs.Ranges.{BothLong};
 ghost use Rattle.statements.specs.Kept.{point_of, Counted};
-ghost use Rattle.state.specs.Given.{Accepted, Stated};
+ghost use Rattle.state.specs.Given.{Stated};
 ghost use Rattle.statements.specs.Points.{Says};
 ghost use Rattle.body.specs.Uses.{Within, uses, run_of, Runs};
 
+use blocks::function::Function;
 use blocks::place::{root_before, uses_place};
 use env::project::{Projected, projection};
-use mir::function::{args_from, local_types, ops_from};
 use refusal::Refusal;
 use state::nodes::State;
 use statements::{FOLD, Out, UNFOLD, at_point, point_of, record};
@@ -47,27 +47,24 @@ fn tell(
 
 // The place before item i is used, at the item's point or at the entry's.
 fn use_place(
-    types: &[u32],
-    offs: &[u32],
-    fun: &[u32],
+    fun: &Function,
     i: usize,
     entry: bool,
     s: &mut State,
     out: &mut [u32],
     o: Out,
 ) -> Result<Out, Refusal>
-    requires accepted { Accepted types.now offs.now fun.now }
-    requires i_bound { i < nitems fun.now }
-    requires i_value { uses_place fun.now i ≡ true }
-    requires stated { Stated types.now (local_types fun.now) s.old }
+    requires i_bound { i < nitems fun.now.record.words.now }
+    requires i_value { uses_place fun.now.record.words.now i ≡ true }
+    requires stated { Stated fun.now.types.words.now (local_types fun.now.record.words.now) s.old }
     requires counted { Counted out.old o }
-    ensures { Runs types.now fun.now (uses types.now fun.now entry 1 i) s.old out.old o out.new result s.new }
+    ensures { Runs fun.now.types.words.now fun.now.record.words.now (uses fun.now.types.words.now fun.now.record.words.now entry 1 i) s.old out.old o out.new result s.new }
 {
     let p = at_point(o, point_of(i, entry));
-    let root = root_before(fun, i);
-    let ops = ops_from(fun, root, i);
-    let args = args_from(fun, root, i);
-    let r = projection(types, offs, local_types(fun), s, ops, args)?;
+    let root = root_before(&fun.record, i);
+    let ops = fun.record.ops_from(root, i);
+    let args = fun.record.args_from(root, i);
+    let r = projection(&fun.types, fun.record.local_types(), s, ops, args)?;
     match r.recorded {
         Projected::Nothing => Ok(p),
         Projected::Fold => Ok(tell(out, p, FOLD, 0, ops, args, ops.len())),
@@ -77,24 +74,21 @@ fn use_place(
 
 // These items, from the state s on.
 pub fn pass_items(
-    types: &[u32],
-    offs: &[u32],
-    fun: &[u32],
+    fun: &Function,
     items: Items,
     s: &mut State,
     out: &mut [u32],
     o: Out,
 ) -> Result<Out, Refusal>
-    requires accepted { Accepted types.now offs.now fun.now }
-    requires within { Within fun.now items }
-    requires stated { Stated types.now (local_types fun.now) s.old }
+    requires within { Within fun.now.record.words.now items }
+    requires stated { Stated fun.now.types.words.now (local_types fun.now.record.words.now) s.old }
     requires counted { Counted out.old o }
-    ensures { Runs types.now fun.now (run_of types.now fun.now items) s.old out.old o out.new result s.new }
+    ensures { Runs fun.now.types.words.now fun.now.record.words.now (run_of fun.now.types.words.now fun.now.record.words.now items) s.old out.old o out.new result s.new }
 {
     let mut q = o;
     for i in items.from..items.end {
-        if uses_place(fun, i) {
-            q = use_place(types, offs, fun, i, items.entry, s, out, q)?;
+        if uses_place(&fun.record, i) {
+            q = use_place(fun, i, items.entry, s, out, q)?;
         }
     }
     Ok(q)

@@ -13,6 +13,7 @@ use input::{check_given, check_locals};
 use refusal::Refusal;
 use state::nodes::State;
 use statements::{Counts, ENTRY, Out, Point, begun, finish, wipe};
+use type_record::types::Types;
 
 // Nothing is recorded yet, and every point of a collecting call is the entry.
 fn start() -> Out
@@ -55,13 +56,17 @@ pub fn collect_fold_unfolds(
     if let Err(r) = check_locals(types, locals, &mut offs) {
         return refused(out, r);
     }
-    if let Err(r) = check_given(types, &offs, locals, s) {
+    let types = &Types {
+        words: types,
+        offs: &offs,
+    };
+    if let Err(r) = check_given(types, locals, s) {
         return refused(out, r);
     }
-    if let Err(r) = check_given(types, &offs, locals, e) {
+    if let Err(r) = check_given(types, locals, e) {
         return refused(out, r);
     }
-    let c = states::collect_fold_unfolds(types, &offs, locals, s, e, out, start());
+    let c = states::collect_fold_unfolds(types, locals, s, e, out, start());
     ended(out, c)
 }
 
@@ -79,10 +84,14 @@ pub fn collect_unfolds(
     if let Err(r) = check_locals(types, locals, &mut offs) {
         return refused(out, r);
     }
-    if let Err(r) = check_given(types, &offs, locals, s) {
+    let types = &Types {
+        words: types,
+        offs: &offs,
+    };
+    if let Err(r) = check_given(types, locals, s) {
         return refused(out, r);
     }
-    let c = states::collect_unfolds(types, &offs, locals, s, out, start());
+    let c = states::collect_unfolds(types, locals, s, out, start());
     ended(out, c)
 }
 
@@ -104,9 +113,13 @@ pub fn collect_folds_at_ret(
     if locals.len() <= a {
         return refused(out, Refusal::BadState);
     }
-    if let Err(r) = check_given(types, &offs, locals, s) {
+    let types = &Types {
+        words: types,
+        offs: &offs,
+    };
+    if let Err(r) = check_given(types, locals, s) {
         return refused(out, r);
     }
-    let o = states::collect_folds_at_ret(types, &offs, locals, a, &s, out, start());
+    let o = states::collect_folds_at_ret(types, locals, a, &s, out, start());
     finish(out, o)
 }

@@ -2,7 +2,6 @@
 ghost use Rattle.std.specs.Prelude.{◌≡◌, true, ◌<◌, length};
 ghost use Rattle.moments.specs.Lent.{after};
 ghost use Rattle.model.specs.State.{locals_ok};
-ghost use Rattle.type_record.specs.Sizes.{Ready};
 ghost use Rattle.statements.specs.Kept.{Counted};
 ghost use Rattle.collectors.specs.Trail.{Long, root};
 ghost use Rattle.collectors.specs.Gets.{StandAll, OpeningAll, LeadingAll};
@@ -17,11 +16,11 @@ use mir::items::ROOT;
 use refusal::Refusal;
 use state::nodes::{State, node_end};
 use statements::Out;
+use type_record::types::Types;
 
 // What opens each local, one after the other, until it is as its tree.
 fn unfolds_locals<'a>(
-    types: &[u32],
-    offs: &[u32],
+    types: &Types,
     locals: &[u32],
     forms: &'a [u16],
     whats: &'a [u16],
@@ -30,12 +29,11 @@ fn unfolds_locals<'a>(
     out: &mut [u32],
     o: Out,
 ) -> Result<Got, Refusal>
-    requires ready { Ready types.now offs.now }
-    requires locals_value { locals_ok types.now locals.now ≡ true }
-    requires stand_all { StandAll types.now forms.now whats.now 0 locals.now 1 }
+    requires locals_value { locals_ok types.now.words.now locals.now ≡ true }
+    requires stand_all { StandAll types.now.words.now forms.now whats.now 0 locals.now 1 }
     requires long { Long ops.old args.old }
     requires counted { Counted out.old o }
-    ensures { OpeningAll types.now out.old o out.new result (root 0) forms.now whats.now 0 locals.now }
+    ensures { OpeningAll types.now.words.now out.old o out.new result (root 0) forms.now whats.now 0 locals.now }
 {
     let mut g = reached(0, 0, o);
     for (l, t) in locals.iter().enumerate() {
@@ -46,15 +44,14 @@ fn unfolds_locals<'a>(
             typ: *t as usize,
             depth: 1,
         };
-        g = unfolds_node(types, offs, forms, whats, c, ops, args, out, g.out)?;
+        g = unfolds_node(types, forms, whats, c, ops, args, out, g.out)?;
     }
     Ok(g)
 }
 
 // What leads from each local's first tree to its second.
 fn collect_locals<'a>(
-    types: &[u32],
-    offs: &[u32],
+    types: &Types,
     locals: &[u32],
     f1: &'a [u16],
     w1: &'a [u16],
@@ -65,13 +62,12 @@ fn collect_locals<'a>(
     out: &mut [u32],
     o: Out,
 ) -> Result<Got, Refusal>
-    requires ready { Ready types.now offs.now }
-    requires locals_value { locals_ok types.now locals.now ≡ true }
-    requires stand_all { StandAll types.now f1.now w1.now 0 locals.now 1 }
-    requires stand_all_2 { StandAll types.now f2.now w2.now 0 locals.now 1 }
+    requires locals_value { locals_ok types.now.words.now locals.now ≡ true }
+    requires stand_all { StandAll types.now.words.now f1.now w1.now 0 locals.now 1 }
+    requires stand_all_2 { StandAll types.now.words.now f2.now w2.now 0 locals.now 1 }
     requires long { Long ops.old args.old }
     requires counted { Counted out.old o }
-    ensures { LeadingAll types.now out.old o out.new result (root 0) f1.now w1.now 0 f2.now w2.now 0 locals.now }
+    ensures { LeadingAll types.now.words.now out.old o out.new result (root 0) f1.now w1.now 0 f2.now w2.now 0 locals.now }
 {
     let mut g = reached(0, 0, o);
     for (l, typ) in locals.iter().enumerate() {
@@ -82,15 +78,14 @@ fn collect_locals<'a>(
             typ: *typ as usize,
             depth: 1,
         };
-        g = collect_node(types, offs, f1, w1, f2, w2, c, ops, args, out, g.out)?;
+        g = collect_node(types, f1, w1, f2, w2, c, ops, args, out, g.out)?;
     }
     Ok(g)
 }
 
 // What a return owes of the locals 1 to a.
 fn folds_locals<'a>(
-    types: &[u32],
-    offs: &[u32],
+    types: &Types,
     locals: &[u32],
     a: usize,
     forms: &'a [u16],
@@ -100,15 +95,14 @@ fn folds_locals<'a>(
     out: &mut [u32],
     o: Out,
 ) -> Got
-    requires ready { Ready types.now offs.now }
-    requires locals_value { locals_ok types.now locals.now ≡ true }
+    requires locals_value { locals_ok types.now.words.now locals.now ≡ true }
     requires a_in_bounds { a < length locals.now }
-    requires stand_all { StandAll types.now forms.now whats.now 0 locals.now 1 }
+    requires stand_all { StandAll types.now.words.now forms.now whats.now 0 locals.now 1 }
     requires long { Long ops.old args.old }
     requires counted { Counted out.old o }
-    ensures { Owed types.now out.old o out.new result a forms.now whats.now locals.now }
+    ensures { Owed types.now.words.now out.old o out.new result a forms.now whats.now locals.now }
 {
-    let i = node_end(types, offs, forms, whats, 0, locals[0] as usize);
+    let i = node_end(types, forms, whats, 0, locals[0] as usize);
     let mut g = reached(i, 0, o);
     for l in 1..a + 1 {
         set_item(ops, args, 0, ROOT, l);
@@ -118,80 +112,74 @@ fn folds_locals<'a>(
             typ: locals[l] as usize,
             depth: 1,
         };
-        g = folds_node(types, offs, forms, whats, c, ops, args, out, g.out);
+        g = folds_node(types, forms, whats, c, ops, args, out, g.out);
     }
     g
 }
 
 // From one state to another.
 pub fn collect_fold_unfolds(
-    types: &[u32],
-    offs: &[u32],
+    types: &Types,
     locals: &[u32],
     s: State,
     e: State,
     out: &mut [u32],
     o: Out,
 ) -> Result<Out, Refusal>
-    requires ready { Ready types.now offs.now }
-    requires locals_value { locals_ok types.now locals.now ≡ true }
-    requires held { Held types.now locals.now s }
-    requires held_2 { Held types.now locals.now e }
+    requires locals_value { locals_ok types.now.words.now locals.now ≡ true }
+    requires held { Held types.now.words.now locals.now s }
+    requires held_2 { Held types.now.words.now locals.now e }
     requires counted { Counted out.old o }
-    ensures { Moves types.now locals.now s e out.old o out.new result }
+    ensures { Moves types.now.words.now locals.now s e out.old o out.new result }
 {
     let mut ops = [0u32; 130];
     let mut args = [0u32; 130];
     let g = collect_locals(
-        types, offs, locals, &s.forms, &s.whats, &e.forms, &e.whats, &mut ops, &mut args, out, o,
+        types, locals, &s.forms, &s.whats, &e.forms, &e.whats, &mut ops, &mut args, out, o,
     )?;
     Ok(g.out)
 }
 
 // From all folded to a state.
 pub fn collect_unfolds(
-    types: &[u32],
-    offs: &[u32],
+    types: &Types,
     locals: &[u32],
     s: State,
     out: &mut [u32],
     o: Out,
 ) -> Result<Out, Refusal>
-    requires ready { Ready types.now offs.now }
-    requires locals_value { locals_ok types.now locals.now ≡ true }
-    requires held { Held types.now locals.now s }
+    requires locals_value { locals_ok types.now.words.now locals.now ≡ true }
+    requires held { Held types.now.words.now locals.now s }
     requires counted { Counted out.old o }
-    ensures { Unfolds types.now locals.now s out.old o out.new result }
+    ensures { Unfolds types.now.words.now locals.now s out.old o out.new result }
 {
     let mut ops = [0u32; 130];
     let mut args = [0u32; 130];
     let g = unfolds_locals(
-        types, offs, locals, &s.forms, &s.whats, &mut ops, &mut args, out, o,
+        types, locals, &s.forms, &s.whats, &mut ops, &mut args, out, o,
     )?;
     Ok(g.out)
 }
 
 // The folds that a return owes: of the locals 1 to a. The state is lent, so that a block that returns need not copy it.
 pub fn collect_folds_at_ret(
-    types: &[u32],
-    offs: &[u32],
+    types: &Types,
     locals: &[u32],
     a: usize,
     s: &State,
     out: &mut [u32],
     o: Out,
 ) -> Out
-    requires ready { Ready types.now offs.now }
-    requires locals_value { locals_ok types.now locals.now ≡ true }
+    requires locals_value { locals_ok types.now.words.now locals.now ≡ true }
     requires a_in_bounds { a < length locals.now }
-    requires held_in { HeldIn types.now locals.now s.now.forms s.now.whats }
+    requires held_in { HeldIn types.now.words.now locals.now s.now.forms s.now.whats }
     requires counted { Counted out.old o }
-    ensures { Owes types.now locals.now a s.now.forms s.now.whats out.old o out.new result }
+    ensures { Owes types.now.words.now locals.now a s.now.forms s.now.whats out.old o out.new result }
 {
     let mut ops = [0u32; 130];
     let mut args = [0u32; 130];
     let g = folds_locals(
-        types, offs, locals, a, &s.forms, &s.whats, &mut ops, &mut args, out, o,
+        types, locals, a, &s.forms, &s.whats, &mut ops, &mut args, out, o,
     );
     g.out
 }

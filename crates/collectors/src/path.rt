@@ -3,15 +3,9 @@ ghost use Rattle.std.specs.Prelude.{◌+◌, ◌≤◌, ◌<◌};
 ghost use Rattle.moments.specs.Lent.{after};
 ghost use Rattle.collectors.specs.Trail.{Long, Short, Added, Hopped};
 
+use mir::items::{DEREF, DOWNCAST, FIELD};
 use statements::small;
 use type_record::kinds::Kind;
-
-// Kept: the codes of elements once more, since this crate does not depend on mir, whose items have them.
-pub const DEREF: u32 = 1;
-
-const FIELD: u32 = 2;
-
-const DOWNCAST: u32 = 3;
 
 // The item behind the first n.
 pub fn set_item(ops: &mut [u32], args: &mut [u32], n: usize, op: u32, arg: usize)

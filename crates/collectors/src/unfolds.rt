@@ -1,7 +1,6 @@
 // What opens a folded tree until it is as another, over preorder arrays. The other is the second tree of a cursor.
 ghost use Rattle.std.specs.Prelude.{◌+◌, ◌<◌, ◌≤◌, length};
 ghost use Rattle.model.specs.Types.{ntypes};
-ghost use Rattle.type_record.specs.Sizes.{Ready};
 ghost use Rattle.statements.specs.Kept.{Counted};
 ghost use Rattle.collectors.specs.Trail.{trail, Long, Keeps};
 ghost use Rattle.collectors.specs.Gets.{types_of, ways, Zeros, Siblings, Stands, StandAll, Opening, OpeningAll};
@@ -12,7 +11,7 @@ use refusal::Refusal;
 use state::kids::kids_of;
 use statements::{Out, UNFOLD, record};
 use type_record::kinds::Kind;
-use type_record::record::{kind_at, part_at};
+use type_record::types::Types;
 
 // Are all of the n trees from i on folded? They are then n nodes.
 fn all_folded(forms: &[u16], i: usize, n: usize) -> bool
@@ -25,8 +24,7 @@ fn all_folded(forms: &[u16], i: usize, n: usize) -> bool
 // What opens a folded tree until it is as the one at the cursor.
 #[cycle(unfolds_fields_unfolds_node)]
 pub fn unfolds_node<'a>(
-    types: &[u32],
-    offs: &[u32],
+    types: &Types,
     forms: &'a [u16],
     whats: &'a [u16],
     c: Cursor,
@@ -35,13 +33,12 @@ pub fn unfolds_node<'a>(
     out: &mut [u32],
     o: Out,
 ) -> Result<Got, Refusal>
-    requires ready { Ready types.now offs.now }
-    requires typ_bound { c.typ < ntypes types.now }
-    requires stands { Stands types.now forms.now whats.now c.second c.typ c.depth }
+    requires typ_bound { c.typ < ntypes types.now.words.now }
+    requires stands { Stands types.now.words.now forms.now whats.now c.second c.typ c.depth }
     requires long { Long ops.old args.old }
     requires counted { Counted out.old o }
     ensures keeps { Keeps ops.old args.old ops.new args.new c.depth }
-    ensures opening { Opening types.now out.old o out.new result (trail ops.old args.old c.depth) forms.now whats.now c.second c.typ }
+    ensures opening { Opening types.now.words.now out.old o out.new result (trail ops.old args.old c.depth) forms.now whats.now c.second c.typ }
 {
     let i = c.second;
     let next = i + 1;
@@ -49,8 +46,8 @@ pub fn unfolds_node<'a>(
         return Ok(reached(0, next, o));
     }
     let w = whats[i];
-    let ks = kids_of(types, offs, c.typ, w);
-    let kind = kind_at(types, c.typ);
+    let ks = kids_of(types, c.typ, w);
+    let kind = types.kind_at(c.typ);
     if all_folded(forms, next, ks.count) {
         if kind == Kind::Enum {
             return Err(Refusal::BareVariant);
@@ -70,14 +67,13 @@ pub fn unfolds_node<'a>(
         },
         depth: c.depth,
     };
-    unfolds_fields(types, offs, forms, whats, k, ops, args, out, o)
+    unfolds_fields(types, forms, whats, k, ops, args, out, o)
 }
 
 // The same of the children that are left.
 #[cycle(unfolds_fields_unfolds_node)]
 fn unfolds_fields<'a>(
-    types: &[u32],
-    offs: &[u32],
+    types: &Types,
     forms: &'a [u16],
     whats: &'a [u16],
     k: Children,
@@ -86,19 +82,18 @@ fn unfolds_fields<'a>(
     out: &mut [u32],
     o: Out,
 ) -> Result<Got, Refusal>
-    requires ready { Ready types.now offs.now }
-    requires siblings { Siblings types.now k }
-    requires stand_all { StandAll types.now forms.now whats.now k.second (types_of types.now k.kids) (k.depth + 2) }
+    requires siblings { Siblings types.now.words.now k }
+    requires stand_all { StandAll types.now.words.now forms.now whats.now k.second (types_of types.now.words.now k.kids) (k.depth + 2) }
     requires long { Long ops.old args.old }
     requires counted { Counted out.old o }
     ensures keeps { Keeps ops.old args.old ops.new args.new k.depth }
-    ensures opening_all { OpeningAll types.now out.old o out.new result (ways ops.old args.old k) forms.now whats.now k.second (types_of types.now k.kids) }
+    ensures opening_all { OpeningAll types.now.words.now out.old o out.new result (ways ops.old args.old k) forms.now whats.now k.second (types_of types.now.words.now k.kids) }
 {
     let ks = k.kids;
     if ks.count == 0 {
         return Ok(reached(0, k.second, o));
     }
-    let t = part_at(types, offs, ks.owner, ks.first);
+    let t = types.part_at(ks.owner, ks.first);
     let n = hop(ops, args, k.depth, k.way);
     let c = Cursor {
         first: 0,
@@ -106,7 +101,7 @@ fn unfolds_fields<'a>(
         typ: t,
         depth: n,
     };
-    let a = unfolds_node(types, offs, forms, whats, c, ops, args, out, o)?;
+    let a = unfolds_node(types, forms, whats, c, ops, args, out, o)?;
     let rest = left(k, 0, a.second);
-    unfolds_fields(types, offs, forms, whats, rest, ops, args, out, a.out)
+    unfolds_fields(types, forms, whats, rest, ops, args, out, a.out)
 }

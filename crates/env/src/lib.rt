@@ -19,6 +19,7 @@ use input::{check_given, check_locals};
 use project::{Moved, Usage};
 use refusal::Refusal;
 use state::nodes::State;
+use type_record::types::Types;
 
 // What a call does with its place, which says the limits of the place.
 #[derive(Clone, Copy)]
@@ -64,7 +65,7 @@ fn check_use(
     ensures { Tested types.now locals.now offs.new (value s) ops.now args.now (limits aim (length locals.now)) (code result) }
 {
     check_locals(types, locals, offs)?;
-    check_given(types, offs, locals, s)?;
+    check_given(&Types { words: types, offs }, locals, s)?;
     if !place_ok(ops, args, locals.len(), aim) {
         return Err(Refusal::BadPlace);
     }
@@ -81,7 +82,13 @@ pub fn projection(types: &[u32], locals: &[u32], s: State, ops: &[u32], args: &[
     let mut offs = [0u32; 4096];
     let mut after = s;
     let answer = match check_use(types, &mut offs, locals, s, ops, args, Aim::Uses) {
-        Ok(()) => project::projection(types, &offs, locals, &mut after, ops, args),
+        Ok(()) => {
+            let types = Types {
+                words: types,
+                offs: &offs,
+            };
+            project::projection(&types, locals, &mut after, ops, args)
+        }
         Err(n) => Err(n),
     };
     Usage {
@@ -105,7 +112,13 @@ pub fn downcast(
     let mut offs = [0u32; 4096];
     let mut after = s;
     let answer = match check_use(types, &mut offs, locals, s, ops, args, Aim::Uses) {
-        Ok(()) => open::downcast(types, &offs, locals, &mut after, ops, args, variant),
+        Ok(()) => {
+            let types = Types {
+                words: types,
+                offs: &offs,
+            };
+            open::downcast(&types, locals, &mut after, ops, args, variant)
+        }
         Err(n) => Err(n),
     };
     Moved {
@@ -122,7 +135,13 @@ pub fn fold(types: &[u32], locals: &[u32], s: State, ops: &[u32], args: &[u32]) 
     let mut offs = [0u32; 4096];
     let mut after = s;
     let answer = match check_use(types, &mut offs, locals, s, ops, args, Aim::Folds) {
-        Ok(()) => project::fold(types, &offs, locals, &mut after, ops, args),
+        Ok(()) => {
+            let types = Types {
+                words: types,
+                offs: &offs,
+            };
+            project::fold(&types, locals, &mut after, ops, args)
+        }
         Err(n) => Err(n),
     };
     Moved {
@@ -139,7 +158,13 @@ pub fn unfold(types: &[u32], locals: &[u32], s: State, ops: &[u32], args: &[u32]
     let mut offs = [0u32; 4096];
     let mut after = s;
     let answer = match check_use(types, &mut offs, locals, s, ops, args, Aim::Unfolds) {
-        Ok(()) => open::unfold(types, &offs, locals, &mut after, ops, args),
+        Ok(()) => {
+            let types = Types {
+                words: types,
+                offs: &offs,
+            };
+            open::unfold(&types, locals, &mut after, ops, args)
+        }
         Err(n) => Err(n),
     };
     Moved {

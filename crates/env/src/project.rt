@@ -1,7 +1,6 @@
 // The walk of a place, `Env::projection`, and a fold carried out, in a state that passes.
 ghost use Rattle.std.specs.Prelude.{length};
 ghost use Rattle.model.specs.Place.{Fold, spot_ok, used_ok, fold_ok};
-ghost use Rattle.type_record.specs.Sizes.{Ready};
 ghost use Rattle.env.specs.Given.{Asked, Sited};
 ghost use Rattle.env.specs.Answers.{usage, moved};
 ghost use Rattle.env.specs.There.{ProjectsThere, CarriesThere, WalksThere, SubjectThere, ProjectsAt};
@@ -9,7 +8,7 @@ ghost use Rattle.env.specs.There.{ProjectsThere, CarriesThere, WalksThere, Subje
 use refusal::Refusal;
 use state::nodes::{State, local_at};
 use type_record::kinds::Kind;
-use type_record::record::kind_at;
+use type_record::types::Types;
 use walk::along::{Walk, walk_along};
 use walk::apply::{fold_at, open_nodes};
 
@@ -54,74 +53,55 @@ pub enum On {
 
 // `Env::ensure_unfolded`: the walk of the place in its local's tree. What has to be opened on the way is found here; `open_nodes` opens it.
 pub fn ensure_unfolded(
-    types: &[u32],
-    offs: &[u32],
+    types: &Types,
     locals: &[u32],
     s: &State,
     ops: &[u32],
     args: &[u32],
 ) -> Result<Walk, Refusal>
-    requires { Asked types.now offs.now locals.now s.now ops.now args.now (spot_ok 64 (length locals.now)) }
-    ensures { WalksThere types.now locals.now s.now ops.now args.now result }
+    requires { Asked types.now.words.now types.now.offs.now locals.now s.now ops.now args.now (spot_ok 64 (length locals.now)) }
+    ensures { WalksThere types.now.words.now locals.now s.now ops.now args.now result }
 {
     let l = args[0] as usize;
-    let i = local_at(types, offs, &s.forms, &s.whats, locals, l);
-    walk_along(
-        types,
-        offs,
-        &s.forms,
-        &s.whats,
-        ops,
-        args,
-        i,
-        locals[l] as usize,
-    )
+    let i = local_at(types, &s.forms, &s.whats, locals, l);
+    walk_along(types, &s.forms, &s.whats, ops, args, i, locals[l] as usize)
 }
 
 // What a match on the place is on: "a match first walks its place, for its type alone". A walk that ends before an index ends at an
 // array, so the place is an element of it; any other place must be an enum.
 pub fn subject_at(
-    types: &[u32],
-    offs: &[u32],
+    types: &Types,
     locals: &[u32],
     s: &State,
     ops: &[u32],
     args: &[u32],
 ) -> Result<On, Refusal>
-    requires { Asked types.now offs.now locals.now s.now ops.now args.now (used_ok (length locals.now)) }
-    ensures { SubjectThere types.now locals.now s.now ops.now args.now result }
+    requires { Asked types.now.words.now types.now.offs.now locals.now s.now ops.now args.now (used_ok (length locals.now)) }
+    ensures { SubjectThere types.now.words.now locals.now s.now ops.now args.now result }
 {
-    let w = ensure_unfolded(types, offs, locals, s, ops, args)?;
+    let w = ensure_unfolded(types, locals, s, ops, args)?;
     let early = w.walked < ops.len();
     if early {
         return Ok(On::Element);
     }
     let t = w.fresh.typ;
-    match kind_at(types, t) {
+    match types.kind_at(t) {
         Kind::Enum => Ok(On::Enum(t)),
         _ => Err(Refusal::WrongStep),
     }
 }
 
 // The place is used, and its walk has ended at w: what is to be recorded.
-fn used_at(
-    types: &[u32],
-    offs: &[u32],
-    s: &mut State,
-    w: Walk,
-    ops: &[u32],
-    args: &[u32],
-) -> Result<Use, Refusal>
-    requires ready { Ready types.now offs.now }
-    requires sited { Sited types.now s.old ops.now args.now w }
-    ensures { ProjectsAt types.now s.old ops.now args.now w (usage result s.new) }
+fn used_at(types: &Types, s: &mut State, w: Walk, ops: &[u32], args: &[u32]) -> Result<Use, Refusal>
+    requires sited { Sited types.now.words.now s.old ops.now args.now w }
+    ensures { ProjectsAt types.now.words.now s.old ops.now args.now w (usage result s.new) }
 {
     let passed = w.passed - 1;
     if w.passed < w.walked {
         if MOST_NODES < s.nodes + w.fresh.added {
             return Err(Refusal::StateFull);
         }
-        open_nodes(types, offs, s, w, ops, args, None);
+        open_nodes(types, s, w, ops, args, None);
         return Ok(Use {
             recorded: Projected::Unfold(w.walked - 2),
             passed,
@@ -129,7 +109,7 @@ fn used_at(
     }
     let open = s.forms[w.node] != 0;
     if open {
-        fold_at(types, offs, s, w.node, w.typ);
+        fold_at(types, s, w.node, w.typ);
         return Ok(Use {
             recorded: Projected::Fold,
             passed,
@@ -143,47 +123,44 @@ fn used_at(
 
 // A place of a fold is used.
 fn used(
-    types: &[u32],
-    offs: &[u32],
+    types: &Types,
     locals: &[u32],
     s: &mut State,
     ops: &[u32],
     args: &[u32],
 ) -> Result<Use, Refusal>
-    requires { Asked types.now offs.now locals.now s.old ops.now args.now (fold_ok (length locals.now)) }
-    ensures { ProjectsThere types.now locals.now s.old ops.now args.now (usage result s.new) }
+    requires { Asked types.now.words.now types.now.offs.now locals.now s.old ops.now args.now (fold_ok (length locals.now)) }
+    ensures { ProjectsThere types.now.words.now locals.now s.old ops.now args.now (usage result s.new) }
 {
-    let w = ensure_unfolded(types, offs, locals, s, ops, args)?;
-    used_at(types, offs, s, w, ops, args)
+    let w = ensure_unfolded(types, locals, s, ops, args)?;
+    used_at(types, s, w, ops, args)
 }
 
 // The place is used: what is to be recorded.
 pub fn projection(
-    types: &[u32],
-    offs: &[u32],
+    types: &Types,
     locals: &[u32],
     s: &mut State,
     ops: &[u32],
     args: &[u32],
 ) -> Result<Use, Refusal>
-    requires { Asked types.now offs.now locals.now s.old ops.now args.now (used_ok (length locals.now)) }
-    ensures { ProjectsThere types.now locals.now s.old ops.now args.now (usage result s.new) }
+    requires { Asked types.now.words.now types.now.offs.now locals.now s.old ops.now args.now (used_ok (length locals.now)) }
+    ensures { ProjectsThere types.now.words.now locals.now s.old ops.now args.now (usage result s.new) }
 {
-    used(types, offs, locals, s, ops, args)
+    used(types, locals, s, ops, args)
 }
 
 // A fold carried out: the place is used, and what that records is dropped.
 pub fn fold(
-    types: &[u32],
-    offs: &[u32],
+    types: &Types,
     locals: &[u32],
     s: &mut State,
     ops: &[u32],
     args: &[u32],
 ) -> Result<(), Refusal>
-    requires { Asked types.now offs.now locals.now s.old ops.now args.now (fold_ok (length locals.now)) }
-    ensures { CarriesThere types.now locals.now s.old ops.now args.now Fold (moved result s.new) }
+    requires { Asked types.now.words.now types.now.offs.now locals.now s.old ops.now args.now (fold_ok (length locals.now)) }
+    ensures { CarriesThere types.now.words.now locals.now s.old ops.now args.now Fold (moved result s.new) }
 {
-    used(types, offs, locals, s, ops, args)?;
+    used(types, locals, s, ops, args)?;
     Ok(())
 }

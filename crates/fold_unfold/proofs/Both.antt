@@ -19,7 +19,7 @@ use Rattle.base.specs.Answer.{split_answer, then_done}
 use Rattle.demand.specs.Whole.{Passed}
 use Rattle.demand.specs.Refused.{passes_refuse}
 use Rattle.refusal.specs.declared.Refusal.{Refusal}
-use Rattle.state.specs.Given.{Accepted}
+use Rattle.blocks.specs.Accepted.{Accepted}
 use Rattle.statements.specs.declared.Out.{Out}
 use Rattle.queue.specs.Bits.{no_bits}
 use Rattle.arrival.specs.Memory.{Memory, with_store, with_log}

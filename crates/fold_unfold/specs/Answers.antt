@@ -15,7 +15,7 @@ use Rattle.statements.specs.Kept.{Counted, Kept}
 use Rattle.statements.specs.Marked.{marked, marked_record}
 use Rattle.statements.specs.declared.Out.{Out}
 use Rattle.statements.specs.declared.Counts.{Counts}
-use Rattle.state.specs.Given.{Accepted}
+use Rattle.blocks.specs.Accepted.{Accepted}
 use Rattle.arrival.specs.Shares.{Shared}
 
 -- the counts of statements and entries, or the refusal's number

@@ -8,20 +8,22 @@ ghost use Rattle.model.specs.Replay.{Replayed};
 ghost use Rattle.model.specs.Told.{number_ok, Numbered};
 ghost use Rattle.model.specs.Promised.{OneOf, whole_numbers};
 ghost use Rattle.refusal.specs.Refusal.{number};
-ghost use Rattle.type_record.specs.Sizes.{Ready};
 ghost use Rattle.blocks.specs.Points.{Zeros};
 ghost use Rattle.fold_unfold.specs.Answers.{Whole, Marked, WholeTold, AllZero, Checked};
 
 pub mod run;
 
+use blocks::function::Function;
 use blocks::join_points::fill_join_points;
 use blocks::place::places_ok;
 use mir::check_function::check_function;
+use mir::function::Record;
 use refusal::Refusal;
 use run::analyse;
 use statements::numbers::{tell_numbers, unmark};
 use statements::{Counts, finish};
 use type_record::check_types::check_types;
+use type_record::types::Types;
 
 // The tests of what types that pass leave to test: the function, its places, and the store's length. points then has the numbers of the
 // shares.
@@ -40,10 +42,11 @@ fn checked(
     if !check_function(types, fun) {
         return Err(Refusal::BadFunction);
     }
-    if !places_ok(fun) {
+    let record = Record { words: fun };
+    if !places_ok(&record) {
         return Err(Refusal::BadPlace);
     }
-    let k = 512 * fill_join_points(fun, points);
+    let k = 512 * fill_join_points(&record, points);
     if forms < k || whats < k {
         return Err(Refusal::ShortStore);
     }
@@ -52,21 +55,22 @@ fn checked(
 
 // The statements of a function, over types that pass, into arrays of zeros; their numbers still stand in the record, as marks. A refusal leaves
 // zeros in all that was lent.
-fn marked_statements(
-    types: &[u32],
-    offs: &[u32],
-    fun: &[u32],
+fn marked_statements<'a>(
+    types: &Types<'a>,
+    fun: &'a [u32],
     forms: &mut [u16],
     whats: &mut [u16],
     out: &mut [u32],
 ) -> Result<Counts, Refusal>
-    requires ready { Ready types.now offs.now }
     requires all_zero { AllZero forms.old whats.old out.old }
-    ensures { Marked types.now fun.now forms.old whats.old out.old forms.new whats.new out.new result }
+    ensures { Marked types.now.words.now fun.now forms.old whats.old out.old forms.new whats.new out.new result }
 {
     let mut points = [0u32; 256];
-    checked(types, fun, &mut points, forms.len(), whats.len())?;
-    let g = match analyse(types, offs, fun, &points, forms, whats, out) {
+    checked(types.words, fun, &mut points, forms.len(), whats.len())?;
+    let types = *types;
+    let record = Record { words: fun };
+    let function = Function { types, record };
+    let g = match analyse(&function, &points, forms, whats, out) {
         Ok(o) => finish(out, o),
         Err(e) => {
             out.fill(0);
@@ -82,20 +86,18 @@ fn marked_statements(
 
 // The same without the numbers.
 pub fn function_statements(
-    types: &[u32],
-    offs: &[u32],
+    types: &Types,
     fun: &[u32],
     forms: &mut [u16],
     whats: &mut [u16],
     out: &mut [u32],
 ) -> Result<Counts, Refusal>
-    requires ready { Ready types.now offs.now }
     requires all_zero { AllZero forms.old whats.old out.old }
-    ensures whole { Whole types.now fun.now forms.old whats.old out.old forms.new whats.new out.new result }
-    ensures replayed { OnOk result (Replayed types.now fun.now out.new) }
+    ensures whole { Whole types.now.words.now fun.now forms.old whats.old out.old forms.new whats.new out.new result }
+    ensures replayed { OnOk result (Replayed types.now.words.now fun.now out.new) }
     ensures numbered { IfErr result (λ e. OneOf whole_numbers (number e)) }
 {
-    let g = marked_statements(types, offs, fun, forms, whats, out)?;
+    let g = marked_statements(types, fun, forms, whats, out)?;
     unmark(out);
     Ok(g)
 }
@@ -125,7 +127,11 @@ pub fn ghost_statements(
     if !check_types(types, &mut offs) {
         return Err(Refusal::BadTypes);
     }
-    let g = marked_statements(types, &offs, fun, forms, whats, out)?;
+    let types = Types {
+        words: types,
+        offs: &offs,
+    };
+    let g = marked_statements(&types, fun, forms, whats, out)?;
     let room = told.len();
     if room < g.statements {
         forms.fill(0);

@@ -1,5 +1,6 @@
 -- The pieces that were read, and the bytes that they are.
-use Rattle.std.proofs.Common.{◌≡◌, ap, ◌∙◌, Option, None, Some, IfSome, List, [], ◌∷◌, ◌++◌, append-nil, ℕ}
+use Rattle.std.proofs.Common.{◌≡◌, ap, ◌∙◌, Option, None, Some, IfSome, List, [], ◌∷◌, ◌++◌, append-nil, ℕ, length, take, ℤ, FitsSigned, to_z, of_z, w64}
+use Rattle.std.proofs.lemmas.Int.{to_z-of_z}
 use Rattle.std.proofs.KnownBytes.{Consumes-nil, Consumes-trans}
 use Rattle.std.specs.Io.KnownBytes.{Consumes, IsAtEnd}
 use Rattle.model.specs.Ghosts.{fresh, close, scan}
@@ -9,7 +10,7 @@ use Rattle.text.specs.Reading.{Reads, Steps}
 use Rattle.text.specs.Pieces.{pieces_more}
 use Rattle.answer.specs.Said.{Ended}
 use Rattle.ghosts.specs.declared.Input.{Input}
-use Rattle.ghosts.specs.Heard.{Piece, scan_of}
+use Rattle.ghosts.specs.Heard.{Piece, scan_of, clamp_len}
 
 -- some pieces have been read, which a reader's bytes have lost, where they are known
 pub record Heard (old new : Option (List ℕ)) (s : Option Scan) (words : List ℕ) : Type 0 where
@@ -43,3 +44,8 @@ pub heard_whole : (a b : Option (List ℕ)) {s r : Option Scan} {words after : L
 heard_whole None b h e k = tt
 heard_whole (Some xs) None h e k = absurd h.taken
 heard_whole (Some xs) (Some ys) h e k = let w : xs ≡ h.bytes = h.taken ∙ ap (λ l. h.bytes ++ l) e ∙ append-nil h.bytes in rw w (k.reads _ h.whole)
+
+-- a count that a read gives as a signed number: as many bytes are a piece, as they are where the count is a number of bytes
+pub piece_tested : (n : ℕ) (z : ℤ) (buf : List ℕ) {words after : List ℕ} {s r : Option Scan} → FitsSigned w64 z → n ≡ clamp_len (to_z w64 (of_z w64 z)) (length buf)
+    → Steps (scan (take n buf)) s words r after → Steps (scan (take (clamp_len z (length buf)) buf)) s words r after
+piece_tested n z buf f e h = rw (e ∙ ap (λ x. clamp_len x (length buf)) (to_z-of_z w64 z f)) at h

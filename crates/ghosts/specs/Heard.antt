@@ -1,5 +1,5 @@
 -- A text that is read, whatever bytes each read brings.
-use Rattle.std.specs.Prelude.{◌≡◌, Bool, false, true, List, ℕ, length, take, min, eqb, ⊤, Option, Result, Ok, Err, IfSome}
+use Rattle.std.specs.Prelude.{◌≡◌, Bool, false, true, List, ℕ, ℤ, pos, negsuc, length, take, min, eqb, ⊤, Option, Result, Ok, Err, IfSome}
 use Rattle.std.specs.Io.KnownBytes.{Keeps, Consumes, IsAtEnd}
 use Rattle.std.specs.declared.io.Error.{Error}
 use Rattle.model.specs.Ghosts.{fresh, close, scan}
@@ -17,6 +17,11 @@ scan_of (End s) = s
 abbrev pub ended : Input → Bool
 ended (More s) = false
 ended (End s) = true
+
+-- what a signed count of a read stands for, as a number of the buffer's bytes: none, if it is below 0
+abbrev pub clamp_len : ℤ → ℕ → ℕ
+clamp_len (pos k) most = min k most
+clamp_len (negsuc k) most = 0
 
 -- what a read brought is taken up: that many bytes of the buffer are a piece more, and reading goes on or has ended
 pub record Brings (n : ℕ) (buf : List ℕ) (s : Option Scan) (words : List ℕ) (r : Input) (after : List ℕ) : Type 0 where

@@ -4,7 +4,6 @@
 ghost use Rattle.std.specs.Prelude.{◌≡◌, true, cond, ◌≤◌, length};
 ghost use Rattle.model.specs.State.{decode, locals_ok};
 ghost use Rattle.mir.specs.Parts.{is_some};
-ghost use Rattle.type_record.specs.Sizes.{Ready};
 ghost use Rattle.refusal.specs.Refusal.{code};
 ghost use Rattle.state.specs.Value.{value};
 ghost use Rattle.input.specs.Input.{Checked};
@@ -14,6 +13,7 @@ use refusal::Refusal;
 use state::check_state::check_state;
 use state::nodes::State;
 use type_record::check_types::check_types;
+use type_record::types::Types;
 
 // The type record and the local types. offs then has the offsets of the parts.
 pub fn check_locals(types: &[u32], locals: &[u32], offs: &mut [u32]) -> Result<(), Refusal>
@@ -30,12 +30,11 @@ pub fn check_locals(types: &[u32], locals: &[u32], offs: &mut [u32]) -> Result<(
 }
 
 // A state of these locals.
-pub fn check_given(types: &[u32], offs: &[u32], locals: &[u32], s: State) -> Result<(), Refusal>
-    requires ready { Ready types.now offs.now }
-    requires locals_value { locals_ok types.now locals.now ≡ true }
-    ensures { code result ≡ cond (is_some (decode types.now locals.now (value s))) 0 3 }
+pub fn check_given(types: &Types, locals: &[u32], s: State) -> Result<(), Refusal>
+    requires locals_value { locals_ok types.now.words.now locals.now ≡ true }
+    ensures { code result ≡ cond (is_some (decode types.now.words.now locals.now (value s))) 0 3 }
 {
-    if check_state(types, offs, locals, s) {
+    if check_state(types, locals, s) {
         return Ok(());
     }
     Err(Refusal::BadState)

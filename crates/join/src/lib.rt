@@ -14,6 +14,7 @@ use input::{check_given, check_locals};
 use refusal::Refusal;
 use state::nodes::State;
 use trees::join_into;
+use type_record::types::Types;
 
 // Whether the first state changed, or the refusal; and the first state as it is then.
 #[derive(Drop)]
@@ -40,15 +41,19 @@ pub fn join(types: &[u32], locals: &[u32], s: State, e: State) -> Merged
     if let Err(r) = check_locals(types, locals, &mut offs) {
         return refused(r, s);
     }
-    if let Err(r) = check_given(types, &offs, locals, s) {
+    let types = &Types {
+        words: types,
+        offs: &offs,
+    };
+    if let Err(r) = check_given(types, locals, s) {
         return refused(r, s);
     }
-    if let Err(r) = check_given(types, &offs, locals, e) {
+    if let Err(r) = check_given(types, locals, e) {
         return refused(r, s);
     }
     let mut forms = [0u16; 512];
     let mut whats = [0u16; 512];
-    let Some(j) = join_into(types, &offs, locals, s, e, &mut forms, &mut whats) else {
+    let Some(j) = join_into(types, locals, s, e, &mut forms, &mut whats) else {
         return refused(Refusal::StateFull, s);
     };
     Merged {

@@ -3,7 +3,6 @@ ghost use Rattle.std.specs.Prelude.{◌≡◌, true, false, ◌<◌};
 ghost use Rattle.model.specs.Types.{ntypes};
 ghost use Rattle.model.specs.State.{locals_ok};
 ghost use Rattle.records.specs.Here.{Here, Heres};
-ghost use Rattle.type_record.specs.Sizes.{Ready};
 ghost use Rattle.state.specs.Kids.{KidsIn, kid_types};
 ghost use Rattle.join.specs.Ends.{Room, arrays, marks, Met, MetAll};
 ghost use Rattle.join.specs.Answers.{Given, JoinedAs};
@@ -13,14 +12,13 @@ use crate::settle::settle_node;
 use state::edit::clear;
 use state::kids::{Kids, first_kid, kids_of, rest_of_kids};
 use state::nodes::{State, node_end};
-use type_record::record::kind_at;
+use type_record::types::Types;
 
 // Joins the trees of type t that stand at from.first of the first arrays and at from.second of the second, unless there is no room.
 #[tactic(auto, using(crate::proofs::Joins::join_over, state::proofs::Fields::ready_sized))]
 #[cycle(join_fields_join_node)]
 fn join_node<'a>(
-    types: &[u32],
-    offs: &[u32],
+    types: &Types,
     f1: &'a [u16],
     w1: &'a [u16],
     f2: &'a [u16],
@@ -31,21 +29,20 @@ fn join_node<'a>(
     of: &mut [u16],
     ow: &mut [u16],
 ) -> Option<Ends>
-    requires ready { Ready types.now offs.now }
-    requires t_bound { t < ntypes types.now }
-    requires here { Here types.now f1.now w1.now from.first t }
-    requires here_2 { Here types.now f2.now w2.now from.second t }
+    requires t_bound { t < ntypes types.now.words.now }
+    requires here { Here types.now.words.now f1.now w1.now from.first t }
+    requires here_2 { Here types.now.words.now f2.now w2.now from.second t }
     requires room { Room of.old ow.old from.out }
-    ensures { Met types.now (arrays of.old ow.old) (arrays of.new ow.new) (arrays f1.now w1.now) (arrays f2.now w2.now) from t m result }
+    ensures { Met types.now.words.now (arrays of.old ow.old) (arrays of.new ow.new) (arrays f1.now w1.now) (arrays f2.now w2.now) from t m result }
 {
     let i = from.first;
     let j = from.second;
     let k = from.out;
-    let kind = kind_at(types, t);
+    let kind = types.kind_at(t);
     let f = f1[i];
     let g = f2[j];
     if f == 0 {
-        let a = settle_node(types, offs, f2, w2, j, t, m, of, ow, k)?;
+        let a = settle_node(types, f2, w2, j, t, m, of, ow, k)?;
         let to = Marks {
             first: i + 1,
             second: a.to.first,
@@ -57,7 +54,7 @@ fn join_node<'a>(
         });
     }
     if g == 0 {
-        let a = settle_node(types, offs, f1, w1, i, t, m, of, ow, k)?;
+        let a = settle_node(types, f1, w1, i, t, m, of, ow, k)?;
         let to = Marks {
             second: j + 1,
             ..a.to
@@ -71,31 +68,19 @@ fn join_node<'a>(
     if w == w2[j] {
         of[k] = f;
         ow[k] = w;
-        let ks = kids_of(types, offs, t, w);
+        let ks = kids_of(types, t, w);
         let inside = Marks {
             first: i + 1,
             second: j + 1,
             out: k + 1,
         };
-        return join_fields(
-            types,
-            offs,
-            f1,
-            w1,
-            f2,
-            w2,
-            inside,
-            ks,
-            kind.below(m),
-            of,
-            ow,
-        );
+        return join_fields(types, f1, w1, f2, w2, inside, ks, kind.below(m), of, ow);
     }
     of[k] = 0;
     ow[k] = 0;
     let to = Marks {
-        first: node_end(types, offs, f1, w1, i, t),
-        second: node_end(types, offs, f2, w2, j, t),
+        first: node_end(types, f1, w1, i, t),
+        second: node_end(types, f2, w2, j, t),
         out: k + 1,
     };
     Some(Ends { to, changed: true })
@@ -103,8 +88,7 @@ fn join_node<'a>(
 
 #[cycle(join_fields_join_node)]
 fn join_fields<'a>(
-    types: &[u32],
-    offs: &[u32],
+    types: &Types,
     f1: &'a [u16],
     w1: &'a [u16],
     f2: &'a [u16],
@@ -115,12 +99,11 @@ fn join_fields<'a>(
     of: &mut [u16],
     ow: &mut [u16],
 ) -> Option<Ends>
-    requires ready { Ready types.now offs.now }
-    requires kids_in { KidsIn types.now ks }
-    requires heres { Heres types.now f1.now w1.now from.first (kid_types types.now ks) }
-    requires heres_2 { Heres types.now f2.now w2.now from.second (kid_types types.now ks) }
+    requires kids_in { KidsIn types.now.words.now ks }
+    requires heres { Heres types.now.words.now f1.now w1.now from.first (kid_types types.now.words.now ks) }
+    requires heres_2 { Heres types.now.words.now f2.now w2.now from.second (kid_types types.now.words.now ks) }
     requires room { Room of.old ow.old from.out }
-    ensures { MetAll types.now (arrays of.old ow.old) (arrays of.new ow.new) (arrays f1.now w1.now) (arrays f2.now w2.now) from (kid_types types.now ks) m result }
+    ensures { MetAll types.now.words.now (arrays of.old ow.old) (arrays of.new ow.new) (arrays f1.now w1.now) (arrays f2.now w2.now) from (kid_types types.now.words.now ks) m result }
 {
     if ks.count == 0 {
         return Some(Ends {
@@ -128,10 +111,10 @@ fn join_fields<'a>(
             changed: false,
         });
     }
-    let t = first_kid(types, offs, ks);
-    let a = join_node(types, offs, f1, w1, f2, w2, from, t, m, of, ow)?;
+    let t = first_kid(types, ks);
+    let a = join_node(types, f1, w1, f2, w2, from, t, m, of, ow)?;
     let rest = rest_of_kids(ks);
-    let b = join_fields(types, offs, f1, w1, f2, w2, a.to, rest, m, of, ow)?;
+    let b = join_fields(types, f1, w1, f2, w2, a.to, rest, m, of, ow)?;
     Some(Ends {
         to: b.to,
         changed: a.changed || b.changed,
@@ -146,8 +129,7 @@ pub struct Joined {
 }
 
 fn join_locals<'a>(
-    types: &[u32],
-    offs: &[u32],
+    types: &Types,
     locals: &[u32],
     f1: &'a [u16],
     w1: &'a [u16],
@@ -156,12 +138,11 @@ fn join_locals<'a>(
     of: &mut [u16],
     ow: &mut [u16],
 ) -> Option<Ends>
-    requires ready { Ready types.now offs.now }
-    requires locals_value { locals_ok types.now locals.now ≡ true }
-    requires heres { Heres types.now f1.now w1.now 0 locals.now }
-    requires heres_2 { Heres types.now f2.now w2.now 0 locals.now }
+    requires locals_value { locals_ok types.now.words.now locals.now ≡ true }
+    requires heres { Heres types.now.words.now f1.now w1.now 0 locals.now }
+    requires heres_2 { Heres types.now.words.now f2.now w2.now 0 locals.now }
     requires room { Room of.old ow.old 0 }
-    ensures { MetAll types.now (arrays of.old ow.old) (arrays of.new ow.new) (arrays f1.now w1.now) (arrays f2.now w2.now) (marks 0 0 0) locals.now false result }
+    ensures { MetAll types.now.words.now (arrays of.old ow.old) (arrays of.new ow.new) (arrays f1.now w1.now) (arrays f2.now w2.now) (marks 0 0 0) locals.now false result }
 {
     let mut to = Marks {
         first: 0,
@@ -170,7 +151,7 @@ fn join_locals<'a>(
     };
     let mut changed = false;
     for t in locals {
-        let a = join_node(types, offs, f1, w1, f2, w2, to, *t as usize, false, of, ow)?;
+        let a = join_node(types, f1, w1, f2, w2, to, *t as usize, false, of, ow)?;
         to = a.to;
         changed = changed || a.changed;
     }
@@ -179,23 +160,21 @@ fn join_locals<'a>(
 
 // The join of two states, written to two arrays of 512 entries, zeros behind it; None: it has no room.
 pub fn join_into(
-    types: &[u32],
-    offs: &[u32],
+    types: &Types,
     locals: &[u32],
     s: State,
     e: State,
     of: &mut [u16],
     ow: &mut [u16],
 ) -> Option<Joined>
-    requires ready { Ready types.now offs.now }
-    requires locals_value { locals_ok types.now locals.now ≡ true }
-    requires given { Given types.now locals.now s }
-    requires given_2 { Given types.now locals.now e }
+    requires locals_value { locals_ok types.now.words.now locals.now ≡ true }
+    requires given { Given types.now.words.now locals.now s }
+    requires given_2 { Given types.now.words.now locals.now e }
     requires room { Room of.old ow.old 0 }
-    ensures { JoinedAs types.now locals.now s e result of.new ow.new }
+    ensures { JoinedAs types.now.words.now locals.now s e result of.new ow.new }
 {
     let r = join_locals(
-        types, offs, locals, &s.forms, &s.whats, &e.forms, &e.whats, of, ow,
+        types, locals, &s.forms, &s.whats, &e.forms, &e.whats, of, ow,
     )?;
     let nodes = r.to.out;
     clear(of, nodes, 512);

@@ -9,6 +9,7 @@ use refusal::Refusal;
 use sizes::{merged_length, sums_ok};
 use statements::wipe;
 use type_record::check_types::check_types;
+use type_record::types::Types;
 use write::write;
 
 pub mod sizes;
@@ -33,6 +34,13 @@ pub fn merge_types(first: &[u32], second: &[u32], out: &mut [u32]) -> Result<usi
     if out.len() < n {
         return Err(Refusal::ShortStore);
     }
-    write(out, first, second, &offs);
+    write(
+        out,
+        first,
+        &Types {
+            words: second,
+            offs: &offs,
+        },
+    );
     Ok(n)
 }

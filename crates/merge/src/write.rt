@@ -9,7 +9,8 @@ ghost use Rattle.type_record.specs.Sizes.{Sized, Ready};
 use crate::sizes::both;
 use statements::small;
 use type_record::kinds::Kind;
-use type_record::record::{count_of, kind_at, part_at};
+use type_record::record::kind_at;
+use type_record::types::Types;
 
 // n words from word i on, as they are; where the next go.
 fn copy(out: &mut [u32], at: usize, words: &[u32], i: usize, n: usize) -> usize
@@ -34,49 +35,46 @@ fn is_value(types: &[u32], t: usize, j: usize) -> bool
 
 // Part j of the type t, moved up by n.
 #[tactic(auto, using(type_record::proofs::Inside::ok_counted, crate::proofs::Sized::all_sized))]
-fn moved_part(types: &[u32], offs: &[u32], n: usize, t: usize, j: usize) -> u32
-    requires ready { Ready types.now offs.now }
+fn moved_part(types: &Types, n: usize, t: usize, j: usize) -> u32
     requires n_bound { n ≤ 4096 }
-    requires t_bound { t < ntypes types.now }
-    requires j_bound { j < count types.now t }
-    ensures { result ≡ moved_part n types.now t j }
+    requires t_bound { t < ntypes types.now.words.now }
+    requires j_bound { j < count types.now.words.now t }
+    ensures { result ≡ moved_part n types.now.words.now t j }
 {
-    let p = part_at(types, offs, t, j);
-    if is_value(types, t, j) {
-        small(p)
+    let p = types.word_at(t, j);
+    if is_value(types.words, t, j) {
+        p
     } else {
-        small(n + p)
+        n as u32 + p
     }
 }
 
 // The parts of the type t, moved.
 #[tactic(auto, using(crate::proofs::Sized::all_sized, crate::proofs::Putting::no_parts, crate::proofs::Putting::part_one))]
-fn put_parts(out: &mut [u32], at: usize, types: &[u32], offs: &[u32], n: usize, t: usize) -> usize
-    requires ready { Ready types.now offs.now }
+fn put_parts(out: &mut [u32], at: usize, types: &Types, n: usize, t: usize) -> usize
     requires n_bound { n ≤ 4096 }
-    requires t_bound { t < ntypes types.now }
-    requires t_in_bounds { at + count types.now t ≤ length out.old }
-    ensures out_value { out.new ≡ sets out.old at (moved_parts n types.now t (count types.now t)) }
-    ensures next { result ≡ at + count types.now t }
+    requires t_bound { t < ntypes types.now.words.now }
+    requires t_in_bounds { at + count types.now.words.now t ≤ length out.old }
+    ensures out_value { out.new ≡ sets out.old at (moved_parts n types.now.words.now t (count types.now.words.now t)) }
+    ensures next { result ≡ at + count types.now.words.now t }
 {
-    let c = count_of(types, t);
+    let c = types.count_of(t);
     for j in 0..c {
-        out[at + j] = moved_part(types, offs, n, t, j);
+        out[at + j] = moved_part(types, n, t, j);
     }
     at + c
 }
 
 // The parts of all types, moved.
 #[tactic(auto, using(crate::proofs::Sized::words_in, crate::proofs::Putting::no_types, crate::proofs::Putting::type_one, crate::proofs::Putting::offset_none, crate::proofs::Putting::offset_one))]
-fn put_types(out: &mut [u32], at: usize, types: &[u32], offs: &[u32], n: usize)
-    requires ready { Ready types.now offs.now }
+fn put_types(out: &mut [u32], at: usize, types: &Types, n: usize)
     requires n_bound { n ≤ 4096 }
-    requires types_in_bounds { at + nparts types.now ≤ length out.old }
-    ensures { out.new ≡ sets out.old at (moved_below n types.now (ntypes types.now)) }
+    requires types_in_bounds { at + nparts types.now.words.now ≤ length out.old }
+    ensures { out.new ≡ sets out.old at (moved_below n types.now.words.now (ntypes types.now.words.now)) }
 {
     let mut q = at;
-    for t in 0..types[0] as usize {
-        q = put_parts(out, q, types, offs, n, t);
+    for t in 0..types.words[0] as usize {
+        q = put_parts(out, q, types, n, t);
     }
 }
 
@@ -111,16 +109,15 @@ fn put_sizes(out: &mut [u32], first: &[u32], second: &[u32])
 
 // All of it. offs has the offsets of the second's parts.
 #[tactic(auto, using(crate::proofs::Sized::words_in, crate::proofs::Sized::types_few, crate::proofs::Sized::heads_words, crate::proofs::Sized::merged_words))]
-pub fn write(out: &mut [u32], first: &[u32], second: &[u32], offs: &[u32])
+pub fn write(out: &mut [u32], first: &[u32], second: &Types)
     requires first_value { types_ok first.now ≡ true }
-    requires ready { Ready second.now offs.now }
-    requires second_in_bounds { length (merged first.now second.now) ≤ length out.old }
-    ensures { out.new ≡ sets out.old 0 (merged first.now second.now) }
+    requires second_in_bounds { length (merged first.now second.now.words.now) ≤ length out.old }
+    ensures { out.new ≡ sets out.old 0 (merged first.now second.now.words.now) }
 {
-    put_sizes(out, first, second);
-    let i = put_heads(out, first, second);
+    put_sizes(out, first, second.words);
+    let i = put_heads(out, first, second.words);
     let n = first[0] as usize;
     let p = first[1] as usize;
     let j = copy(out, i, first, 2 + n + n, p);
-    put_types(out, j, second, offs, n);
+    put_types(out, j, second, n);
 }

@@ -5,10 +5,9 @@ ghost use Rattle.model.specs.State.{locals_ok};
 ghost use Rattle.model.specs.Function.{nblocks, nitems, may_follow, after, arg_ok, function_sizes, starts_ok, ranks_ok, items_ok, function_ok};
 ghost use Rattle.base.specs.Ranges.{Range};
 ghost use Rattle.type_record.specs.Sizes.{Sized};
-ghost use Rattle.mir.specs.Sizes.{Laid};
 ghost use Rattle.mir.specs.Parts.{type_usable, begins, may_begin, item_ok};
 
-use crate::function::{arg_of, local_types, nblocks, nitems, op_of, rank_of, start_of, stop_of};
+use crate::function::Record;
 use crate::items::{
     ARM, DEREF, DOWNCAST, FIELD, INDEX, NOTE, READ, ROOT, STOP, SWITCH, TARGET, USE,
 };
@@ -125,14 +124,13 @@ pub fn after(before: u32, op: u32) -> u32
 
 // An arg not named is 0, and a target is below B.
 #[tactic(auto, unfolding(model::specs::Function::arg_ok))]
-fn arg_ok(fun: &[u32], i: usize) -> bool
-    requires laid { Laid fun.now }
-    requires i_bound { i < nitems fun.now }
-    ensures { result ≡ arg_ok fun.now i }
+fn arg_ok(fun: &Record, i: usize) -> bool
+    requires i_bound { i < nitems fun.now.words.now }
+    ensures { result ≡ arg_ok fun.now.words.now i }
 {
-    let a = arg_of(fun, i);
-    match op_of(fun, i) {
-        TARGET => (a as usize) < nblocks(fun),
+    let a = fun.arg_of(i);
+    match fun.op_of(i) {
+        TARGET => (a as usize) < fun.nblocks(),
         ROOT | FIELD | DOWNCAST | ARM => true,
         _ => a == 0,
     }
@@ -177,14 +175,13 @@ pub fn locals_ok(types: &[u32], locals: &[u32]) -> bool
 
 // Starts rise strictly and lie below I.
 #[tactic(auto, unfolding(model::specs::Function::starts_ok))]
-fn starts_ok(fun: &[u32]) -> bool
-    requires { Laid fun.now }
-    ensures { result ≡ starts_ok fun.now }
+fn starts_ok(fun: &Record) -> bool
+    ensures { result ≡ starts_ok fun.now.words.now }
 {
-    let n = nitems(fun);
-    for b in 0..nblocks(fun) {
-        let s = start_of(fun, b);
-        if stop_of(fun, b) <= s {
+    let n = fun.nitems();
+    for b in 0..fun.nblocks() {
+        let s = fun.start_of(b);
+        if fun.stop_of(b) <= s {
             return false;
         }
         if n <= s {
@@ -196,14 +193,13 @@ fn starts_ok(fun: &[u32]) -> bool
 
 // Ranks are 0 to B - 1, each once: seen marks those of the blocks before.
 #[tactic(auto, unfolding(model::specs::Function::ranks_ok))]
-fn ranks_ok(fun: &[u32]) -> bool
-    requires { Laid fun.now }
-    ensures { result ≡ ranks_ok fun.now }
+fn ranks_ok(fun: &Record) -> bool
+    ensures { result ≡ ranks_ok fun.now.words.now }
 {
-    let n = nblocks(fun);
+    let n = fun.nblocks();
     let mut seen = [false; 256];
     for b in 0..n {
-        let r = rank_of(fun, b);
+        let r = fun.rank_of(b);
         if n <= r {
             return false;
         }
@@ -217,11 +213,10 @@ fn ranks_ok(fun: &[u32]) -> bool
 
 // Is item i the first of the block b?
 #[tactic(auto, unfolding(crate::specs::Parts::begins))]
-fn begins(fun: &[u32], b: usize, i: usize) -> bool
-    requires { Laid fun.now }
-    ensures { result ≡ begins fun.now b i }
+fn begins(fun: &Record, b: usize, i: usize) -> bool
+    ensures { result ≡ begins fun.now.words.now b i }
 {
-    b < nblocks(fun) && start_of(fun, b) == i
+    b < fun.nblocks() && fun.start_of(b) == i
 }
 
 // May a block begin behind this? Where the entry part is over, or the block before has ended.
@@ -233,21 +228,19 @@ fn may_begin(before: u32) -> bool
 }
 
 #[tactic(auto, unfolding(crate::specs::Parts::item_ok))]
-fn item_ok(fun: &[u32], i: usize, before: u32) -> bool
-    requires laid { Laid fun.now }
-    requires i_bound { i < nitems fun.now }
-    ensures { result ≡ item_ok fun.now i before }
+fn item_ok(fun: &Record, i: usize, before: u32) -> bool
+    requires i_bound { i < nitems fun.now.words.now }
+    ensures { result ≡ item_ok fun.now.words.now i before }
 {
-    may_follow(before, op_of(fun, i)) && arg_ok(fun, i)
+    may_follow(before, fun.op_of(i)) && arg_ok(fun, i)
 }
 
-fn items_ok(fun: &[u32]) -> bool
-    requires { Laid fun.now }
-    ensures { result ≡ items_ok fun.now }
+fn items_ok(fun: &Record) -> bool
+    ensures { result ≡ items_ok fun.now.words.now }
 {
     let mut before: u32 = 0;
     let mut b = 0;
-    for i in 0..nitems(fun) {
+    for i in 0..fun.nitems() {
         if begins(fun, b, i) {
             if !may_begin(before) {
                 return false;
@@ -258,7 +251,7 @@ fn items_ok(fun: &[u32]) -> bool
         if !item_ok(fun, i, before) {
             return false;
         }
-        before = after(before, op_of(fun, i));
+        before = after(before, fun.op_of(i));
     }
     before == 8
 }
@@ -272,5 +265,9 @@ pub fn check_function(types: &[u32], fun: &[u32]) -> bool
     if !function_sizes(fun) {
         return false;
     }
-    locals_ok(types, local_types(fun)) && starts_ok(fun) && ranks_ok(fun) && items_ok(fun)
+    let record = Record { words: fun };
+    locals_ok(types, record.local_types())
+        && starts_ok(&record)
+        && ranks_ok(&record)
+        && items_ok(&record)
 }

@@ -1,21 +1,11 @@
 -- What every function of a run asks of its records and its state, and what holds in each state that stands there.
-use Rattle.std.specs.Prelude.{◌≡◌, true, List, ℕ}
+use Rattle.std.specs.Prelude.{◌≡◌, List, ℕ}
 use Rattle.model.specs.Answer.{Answer, done}
 use Rattle.model.specs.Tree.{Forest}
-use Rattle.model.specs.Function.{local_types, function_ok}
-use Rattle.model.specs.Block.{places_ok}
+use Rattle.model.specs.Function.{local_types}
 use Rattle.records.specs.Here.{Holds}
-use Rattle.type_record.specs.Sizes.{Ready}
-use Rattle.mir.specs.Sizes.{Formed}
 use Rattle.state.specs.Value.{value}
 use Rattle.state.specs.declared.nodes.State.{State}
-
--- both records pass refusals 1, 2 and 4, and os has the offsets of the parts
-pub record Accepted (Γ os fn : List ℕ) : Type 0 where
-  pub ready : Ready Γ os
-  pub function : function_ok Γ fn ≡ true
-  pub formed : Formed fn
-  pub places : places_ok fn ≡ true
 
 -- s holds some state
 pub record Stated (Γ locals : List ℕ) (s : State) : Type 0 where

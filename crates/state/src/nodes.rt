@@ -3,10 +3,9 @@ ghost use Rattle.std.specs.Prelude.{◌≡◌, true, ◌+◌, ◌<◌, ◌≤◌
 ghost use Rattle.model.specs.Types.{ntypes, parts};
 ghost use Rattle.model.specs.State.{locals_ok};
 ghost use Rattle.records.specs.Here.{Here, Heres};
-ghost use Rattle.type_record.specs.Sizes.{Ready};
 ghost use Rattle.state.specs.Found.{Fields, Ends, EndsAll, LocalAt};
 
-use type_record::record::{count_of, first_of, owner_of, part_at};
+use type_record::types::Types;
 
 // A state: form and variant of each node, in preorder, local after local. Every entry past the node count is zero.
 #[derive(Clone, Copy)]
@@ -16,35 +15,21 @@ pub struct State {
     pub nodes: usize,
 }
 
-pub fn wide16(x: u16) -> usize
-    ensures { result ≡ x }
-{
-    x as usize
-}
-
 // The index just past the tree of type t that starts at i.
 #[cycle(fields_end_node_end)]
 #[tactic(auto, using(crate::proofs::Fields::ready_sized, crate::proofs::Fields::ready_counted))]
-pub fn node_end<'a>(
-    types: &[u32],
-    offs: &[u32],
-    forms: &'a [u16],
-    whats: &'a [u16],
-    i: usize,
-    t: usize,
-) -> usize
-    requires ready { Ready types.now offs.now }
-    requires t_bound { t < ntypes types.now }
-    requires here { Here types.now forms.now whats.now i t }
-    ensures { Ends types.now forms.now whats.now i t result }
+pub fn node_end<'a>(types: &Types, forms: &'a [u16], whats: &'a [u16], i: usize, t: usize) -> usize
+    requires t_bound { t < ntypes types.now.words.now }
+    requires here { Here types.now.words.now forms.now whats.now i t }
+    ensures { Ends types.now.words.now forms.now whats.now i t result }
 {
     if forms[i] == 0 {
         i + 1
     } else {
-        let u = owner_of(types, offs, t, usize::from(whats[i]));
-        let j = first_of(types, t);
-        let n = count_of(types, u) - j;
-        fields_end(types, offs, forms, whats, i + 1, u, j, n)
+        let u = types.owner_of(t, usize::from(whats[i]));
+        let j = types.first_of(t);
+        let n = types.count_of(u) - j;
+        fields_end(types, forms, whats, i + 1, u, j, n)
     }
 }
 
@@ -52,8 +37,7 @@ pub fn node_end<'a>(
 #[cycle(fields_end_node_end)]
 #[tactic(auto, using(crate::proofs::Fields::ready_counted))]
 pub fn fields_end<'a>(
-    types: &[u32],
-    offs: &[u32],
+    types: &Types,
     forms: &'a [u16],
     whats: &'a [u16],
     i: usize,
@@ -61,18 +45,17 @@ pub fn fields_end<'a>(
     j: usize,
     n: usize,
 ) -> usize
-    requires ready { Ready types.now offs.now }
-    requires fields { Fields types.now u j n }
-    requires heres { Heres types.now forms.now whats.now i (parts types.now u j n) }
-    ensures { EndsAll types.now forms.now whats.now i (parts types.now u j n) result }
+    requires fields { Fields types.now.words.now u j n }
+    requires heres { Heres types.now.words.now forms.now whats.now i (parts types.now.words.now u j n) }
+    ensures { EndsAll types.now.words.now forms.now whats.now i (parts types.now.words.now u j n) result }
 {
     let mut e = i;
     for k in 0..n {
         if forms[e] == 0 {
             e += 1;
         } else {
-            let t = part_at(types, offs, u, j + k);
-            e = node_end(types, offs, forms, whats, e, t);
+            let t = types.part_at(u, j + k);
+            e = node_end(types, forms, whats, e, t);
         }
     }
     e
@@ -80,22 +63,20 @@ pub fn fields_end<'a>(
 
 // The index of the tree of local l.
 pub fn local_at<'a>(
-    types: &[u32],
-    offs: &[u32],
+    types: &Types,
     forms: &'a [u16],
     whats: &'a [u16],
     locals: &[u32],
     l: usize,
 ) -> usize
-    requires ready { Ready types.now offs.now }
-    requires locals_value { locals_ok types.now locals.now ≡ true }
+    requires locals_value { locals_ok types.now.words.now locals.now ≡ true }
     requires l_in_bounds { l ≤ length locals.now }
-    requires heres { Heres types.now forms.now whats.now 0 locals.now }
-    ensures { LocalAt types.now forms.now whats.now locals.now l result }
+    requires heres { Heres types.now.words.now forms.now whats.now 0 locals.now }
+    ensures { LocalAt types.now.words.now forms.now whats.now locals.now l result }
 {
     let mut i = 0;
     for t in &locals[..l] {
-        i = node_end(types, offs, forms, whats, i, *t as usize);
+        i = node_end(types, forms, whats, i, *t as usize);
     }
     i
 }

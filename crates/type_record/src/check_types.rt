@@ -3,11 +3,11 @@ ghost use Rattle.std.specs.Prelude.{◌≡◌, true, ◌<◌, ◌≤◌, length,
 ghost use Rattle.model.specs.Words.{all};
 ghost use Rattle.model.specs.Types.{ntypes, count, type_sizes, counts_add, field_ok, fields_ok, pointee_ok, variant_ok, variants_ok, type_ok, all_types_ok, types_ok};
 ghost use Rattle.base.specs.Typed.{Variant};
-ghost use Rattle.type_record.specs.Sizes.{Sized, Counted, Offsets, Fills};
+ghost use Rattle.type_record.specs.Sizes.{Sized, Offsets, Fills};
 ghost use Rattle.type_record.specs.Fresh.{value_fresh};
 
 use crate::kinds::Kind;
-use crate::record::{count_of, discriminant, kind_at, part_at};
+use crate::record::{Listed, count_of, kind_at};
 
 pub const MOST_TYPES: usize = 4096;
 
@@ -48,27 +48,23 @@ fn fill_offsets(types: &[u32], offs: &mut [u32]) -> bool
 }
 
 #[tactic(auto, unfolding(model::specs::Types::field_ok))]
-fn field_ok(types: &[u32], offs: &[u32], t: usize, j: usize) -> bool
-    requires counted { Counted types.now }
-    requires offsets { Offsets types.now offs.now }
-    requires t_bound { t < ntypes types.now }
-    requires j_bound { j < count types.now t }
-    ensures { result ≡ field_ok types.now t j }
+fn field_ok(types: &Listed, t: usize, j: usize) -> bool
+    requires t_bound { t < ntypes types.now.words.now }
+    requires j_bound { j < count types.now.words.now t }
+    ensures { result ≡ field_ok types.now.words.now t j }
 {
-    let field = part_at(types, offs, t, j);
-    field < t && kind_at(types, field) != Kind::Variant
+    let field = types.part_at(t, j);
+    field < t && kind_at(types.words, field) != Kind::Variant
 }
 
 // The fields of t from part j on.
 #[tactic(auto, unfolding(model::specs::Types::fields_ok))]
-fn fields_ok(types: &[u32], offs: &[u32], t: usize, first: usize) -> bool
-    requires counted { Counted types.now }
-    requires offsets { Offsets types.now offs.now }
-    requires t_bound { t < ntypes types.now }
-    ensures { result ≡ fields_ok types.now t first }
+fn fields_ok(types: &Listed, t: usize, first: usize) -> bool
+    requires t_bound { t < ntypes types.now.words.now }
+    ensures { result ≡ fields_ok types.now.words.now t first }
 {
-    for j in first..count_of(types, t) {
-        if !field_ok(types, offs, t, j) {
+    for j in first..count_of(types.words, t) {
+        if !field_ok(types, t, j) {
             return false;
         }
     }
@@ -76,33 +72,29 @@ fn fields_ok(types: &[u32], offs: &[u32], t: usize, first: usize) -> bool
 }
 
 #[tactic(auto, unfolding(model::specs::Types::pointee_ok))]
-fn pointee_ok(types: &[u32], offs: &[u32], t: usize) -> bool
-    requires counted { Counted types.now }
-    requires offsets { Offsets types.now offs.now }
-    requires t_bound { t < ntypes types.now }
-    ensures { result ≡ pointee_ok types.now t }
+fn pointee_ok(types: &Listed, t: usize) -> bool
+    requires t_bound { t < ntypes types.now.words.now }
+    ensures { result ≡ pointee_ok types.now.words.now t }
 {
-    if count_of(types, t) != 1 {
+    if count_of(types.words, t) != 1 {
         return false;
     }
-    let pointee = part_at(types, offs, t, 0);
-    pointee < types[0] as usize && kind_at(types, pointee) != Kind::Variant
+    let pointee = types.part_at(t, 0);
+    pointee < types.words[0] as usize && kind_at(types.words, pointee) != Kind::Variant
 }
 
 // No variant before j has the discriminant of variant j.
-fn value_fresh(types: &[u32], offs: &[u32], t: usize, j: usize) -> bool
-    requires counted { Counted types.now }
-    requires offsets { Offsets types.now offs.now }
-    requires t_bound { t < ntypes types.now }
-    requires t_value { all (type_ok types.now) t ≡ true }
-    requires j_bound { j < count types.now t }
-    requires j_value { all (variant_ok types.now t) j ≡ true }
-    requires variant { Variant types.now t j }
-    ensures { result ≡ value_fresh types.now t j }
+fn value_fresh(types: &Listed, t: usize, j: usize) -> bool
+    requires t_bound { t < ntypes types.now.words.now }
+    requires t_value { all (type_ok types.now.words.now) t ≡ true }
+    requires j_bound { j < count types.now.words.now t }
+    requires j_value { all (variant_ok types.now.words.now t) j ≡ true }
+    requires variant { Variant types.now.words.now t j }
+    ensures { result ≡ value_fresh types.now.words.now t j }
 {
-    let d = discriminant(types, offs, t, j);
+    let d = types.discriminant(t, j);
     for i in 0..j {
-        if discriminant(types, offs, t, i) == d {
+        if types.discriminant(t, i) == d {
             return false;
         }
     }
@@ -110,65 +102,55 @@ fn value_fresh(types: &[u32], offs: &[u32], t: usize, j: usize) -> bool
 }
 
 #[tactic(auto, unfolding(model::specs::Types::variant_ok))]
-fn variant_ok(types: &[u32], offs: &[u32], t: usize, j: usize) -> bool
-    requires counted { Counted types.now }
-    requires offsets { Offsets types.now offs.now }
-    requires t_bound { t < ntypes types.now }
-    requires t_value { all (type_ok types.now) t ≡ true }
-    requires j_bound { j < count types.now t }
-    requires j_value { all (variant_ok types.now t) j ≡ true }
-    ensures { result ≡ variant_ok types.now t j }
+fn variant_ok(types: &Listed, t: usize, j: usize) -> bool
+    requires t_bound { t < ntypes types.now.words.now }
+    requires t_value { all (type_ok types.now.words.now) t ≡ true }
+    requires j_bound { j < count types.now.words.now t }
+    requires j_value { all (variant_ok types.now.words.now t) j ≡ true }
+    ensures { result ≡ variant_ok types.now.words.now t j }
 {
-    let variant = part_at(types, offs, t, j);
+    let variant = types.part_at(t, j);
     if t <= variant {
         return false;
     }
-    kind_at(types, variant) == Kind::Variant && value_fresh(types, offs, t, j)
+    kind_at(types.words, variant) == Kind::Variant && value_fresh(types, t, j)
 }
 
 #[tactic(auto, using(crate::proofs::Turns::turns), unfolding(model::specs::Types::variants_ok))]
-fn variants_ok(types: &[u32], offs: &[u32], t: usize) -> bool
-    requires counted { Counted types.now }
-    requires offsets { Offsets types.now offs.now }
-    requires t_bound { t < ntypes types.now }
-    requires t_value { all (type_ok types.now) t ≡ true }
-    ensures { result ≡ variants_ok types.now t }
+fn variants_ok(types: &Listed, t: usize) -> bool
+    requires t_bound { t < ntypes types.now.words.now }
+    requires t_value { all (type_ok types.now.words.now) t ≡ true }
+    ensures { result ≡ variants_ok types.now.words.now t }
 {
-    for j in 0..count_of(types, t) {
-        if !variant_ok(types, offs, t, j) {
+    for j in 0..count_of(types.words, t) {
+        if !variant_ok(types, t, j) {
             return false;
         }
     }
     true
 }
 
-fn type_ok(types: &[u32], offs: &[u32], t: usize) -> bool
-    requires counted { Counted types.now }
-    requires offsets { Offsets types.now offs.now }
-    requires t_bound { t < ntypes types.now }
-    requires t_value { all (type_ok types.now) t ≡ true }
-    ensures { result ≡ type_ok types.now t }
+fn type_ok(types: &Listed, t: usize) -> bool
+    requires t_bound { t < ntypes types.now.words.now }
+    requires t_value { all (type_ok types.now.words.now) t ≡ true }
+    ensures { result ≡ type_ok types.now.words.now t }
 {
-    match kind_at(types, t) {
-        Kind::Opaque | Kind::Array => count_of(types, t) == 0,
-        Kind::Pointer | Kind::Reference | Kind::Box => pointee_ok(types, offs, t),
-        Kind::Tuple | Kind::Struct | Kind::Closure | Kind::Coroutine => {
-            fields_ok(types, offs, t, 0)
-        }
-        Kind::Enum => variants_ok(types, offs, t),
-        Kind::Variant => 1 <= count_of(types, t) && fields_ok(types, offs, t, 1),
+    match kind_at(types.words, t) {
+        Kind::Opaque | Kind::Array => count_of(types.words, t) == 0,
+        Kind::Pointer | Kind::Reference | Kind::Box => pointee_ok(types, t),
+        Kind::Tuple | Kind::Struct | Kind::Closure | Kind::Coroutine => { fields_ok(types, t, 0) }
+        Kind::Enum => variants_ok(types, t),
+        Kind::Variant => 1 <= count_of(types.words, t) && fields_ok(types, t, 1),
         Kind::Other => false,
     }
 }
 
 #[tactic(auto, using(crate::proofs::Turns::turns), unfolding(model::specs::Types::all_types_ok))]
-fn all_types_ok(types: &[u32], offs: &[u32]) -> bool
-    requires counted { Counted types.now }
-    requires offsets { Offsets types.now offs.now }
-    ensures { result ≡ all_types_ok types.now }
+fn all_types_ok(types: &Listed) -> bool
+    ensures { result ≡ all_types_ok types.now.words.now }
 {
-    for t in 0..types[0] as usize {
-        if !type_ok(types, offs, t) {
+    for t in 0..types.words[0] as usize {
+        if !type_ok(types, t) {
             return false;
         }
     }
@@ -185,5 +167,5 @@ pub fn check_types(types: &[u32], offs: &mut [u32]) -> bool
     if !type_sizes(types) {
         return false;
     }
-    fill_offsets(types, offs) && all_types_ok(types, offs)
+    fill_offsets(types, offs) && all_types_ok(&Listed { words: types, offs })
 }

@@ -4,3 +4,4 @@
 pub mod check_types;
 pub mod kinds;
 pub mod record;
+pub mod types;

@@ -7,6 +7,7 @@ use crate::lists::split_list;
 use blocks::join_points::fill_join_points;
 use blocks::place::places_ok;
 use mir::check_function::check_function;
+use mir::function::Record;
 use refusal::Refusal;
 use stream::print_words;
 use type_record::check_types::check_types;
@@ -32,11 +33,12 @@ fn joins(types: &[u32], fun: &[u32]) -> Result<[u32; 256], Refusal> {
     if !check_function(types, fun) {
         return Err(Refusal::BadFunction);
     }
-    if !places_ok(fun) {
+    let record = Record { words: fun };
+    if !places_ok(&record) {
         return Err(Refusal::BadPlace);
     }
     let mut points = [0u32; 256];
-    fill_join_points(fun, &mut points);
+    fill_join_points(&record, &mut points);
     Ok(points)
 }
 

@@ -4,14 +4,13 @@ ghost use Rattle.std.specs.Prelude.{◌≡◌, ◌<◌};
 ghost use Rattle.model.specs.Types.{ntypes};
 ghost use Rattle.base.specs.Ranges.{Range};
 ghost use Rattle.records.specs.Here.{Here};
-ghost use Rattle.type_record.specs.Sizes.{Ready};
 ghost use Rattle.walk.specs.Site.{Short, extent, onward, PassesAt, WalksAt};
 
 use crate::step::{Fresh, Node, folded, step_folded, step_open};
 use mir::items::INDEX;
 use refusal::Refusal;
 use type_record::kinds::Kind;
-use type_record::record::kind_at;
+use type_record::types::Types;
 
 // What a walk has found: the elements walked, counted with the root, and those passed before the step that first changed the
 // tree (as many if none did); the node where the open nodes end, and its type; what the walk has opened from there.
@@ -41,8 +40,7 @@ struct Onward {
 
 // Through open nodes, from the tree at node: up to the end of the place, an index, or a folded node.
 fn pass_open<'a>(
-    types: &[u32],
-    offs: &[u32],
+    types: &Types,
     forms: &'a [u16],
     whats: &'a [u16],
     ops: &[u32],
@@ -50,11 +48,10 @@ fn pass_open<'a>(
     node: usize,
     typ: usize,
 ) -> Result<Through, Refusal>
-    requires ready { Ready types.now offs.now }
-    requires typ_bound { typ < ntypes types.now }
-    requires here { Here types.now forms.now whats.now node typ }
+    requires typ_bound { typ < ntypes types.now.words.now }
+    requires here { Here types.now.words.now forms.now whats.now node typ }
     requires short { Short ops.now args.now }
-    ensures { PassesAt types.now forms.now whats.now ops.now args.now node typ result }
+    ensures { PassesAt types.now.words.now forms.now whats.now ops.now args.now node typ result }
 {
     let mut here = Node { node, typ };
     let n = ops.len();
@@ -67,7 +64,7 @@ fn pass_open<'a>(
                 typ: here.typ,
             });
         }
-        here = step_open(types, offs, forms, whats, here.node, here.typ, op, args[at])?;
+        here = step_open(types, forms, whats, here.node, here.typ, op, args[at])?;
     }
     Ok(Through {
         at: n,
@@ -79,18 +76,16 @@ fn pass_open<'a>(
 // By types alone, from a folded node of type typ, along the items from `from` on: up to the end of the place or an index. No
 // step is made where open nodes led as far.
 fn pass_folded(
-    types: &[u32],
-    offs: &[u32],
+    types: &Types,
     ops: &[u32],
     args: &[u32],
     from: usize,
     typ: usize,
 ) -> Result<Onward, Refusal>
-    requires ready { Ready types.now offs.now }
-    requires typ_bound { typ < ntypes types.now }
+    requires typ_bound { typ < ntypes types.now.words.now }
     requires short { Short ops.now args.now }
     requires range { Range 1 from (extent ops.now args.now) }
-    ensures { result ≡ onward types.now ops.now args.now from typ }
+    ensures { result ≡ onward types.now.words.now ops.now args.now from typ }
 {
     let mut fresh = folded(typ, 0);
     let n = ops.len();
@@ -99,15 +94,14 @@ fn pass_folded(
         if op == INDEX {
             return Ok(Onward { walked: at, fresh });
         }
-        fresh = step_folded(types, offs, fresh, op, args[at])?;
+        fresh = step_folded(types, fresh, op, args[at])?;
     }
     Ok(Onward { walked: n, fresh })
 }
 
 // From the node of a local, of type typ, along the place. Where it stops at an index the type must be an array.
 pub fn walk_along<'a>(
-    types: &[u32],
-    offs: &[u32],
+    types: &Types,
     forms: &'a [u16],
     whats: &'a [u16],
     ops: &[u32],
@@ -115,16 +109,15 @@ pub fn walk_along<'a>(
     node: usize,
     typ: usize,
 ) -> Result<Walk, Refusal>
-    requires ready { Ready types.now offs.now }
-    requires typ_bound { typ < ntypes types.now }
-    requires here { Here types.now forms.now whats.now node typ }
+    requires typ_bound { typ < ntypes types.now.words.now }
+    requires here { Here types.now.words.now forms.now whats.now node typ }
     requires short { Short ops.now args.now }
-    ensures { WalksAt types.now forms.now whats.now ops.now args.now node typ result }
+    ensures { WalksAt types.now.words.now forms.now whats.now ops.now args.now node typ result }
 {
-    let th = pass_open(types, offs, forms, whats, ops, args, node, typ)?;
-    let on = pass_folded(types, offs, ops, args, th.at, th.typ)?;
+    let th = pass_open(types, forms, whats, ops, args, node, typ)?;
+    let on = pass_folded(types, ops, args, th.at, th.typ)?;
     let fresh = on.fresh;
-    if on.walked < ops.len() && kind_at(types, fresh.typ) != Kind::Array {
+    if on.walked < ops.len() && types.kind_at(fresh.typ) != Kind::Array {
         return Err(Refusal::WrongStep);
     }
     Ok(Walk {

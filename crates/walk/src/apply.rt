@@ -4,7 +4,7 @@ ghost use Rattle.model.specs.Types.{ntypes};
 ghost use Rattle.model.specs.Place.{no_index};
 ghost use Rattle.model.specs.Block.{elem_of};
 ghost use Rattle.base.specs.Ranges.{BothHave};
-ghost use Rattle.type_record.specs.Sizes.{Sized, Ready};
+ghost use Rattle.type_record.specs.Sizes.{Sized};
 ghost use Rattle.walk.specs.Way.{route};
 ghost use Rattle.walk.specs.Fresh.{distance, variant};
 ghost use Rattle.walk.specs.Applied.{Marks, Stretch, Room, Pens, Opens, Carried, Folds, Folded};
@@ -15,6 +15,7 @@ use mir::items::{DEREF, DOWNCAST, FIELD};
 use state::edit::{close_up, make_room};
 use state::nodes::{State, node_end};
 use type_record::record::kind_at;
+use type_record::types::Types;
 
 // How many nodes stand between a node that a step opens and the node that it leads to.
 fn distance(op: u32, arg: u32) -> usize
@@ -66,8 +67,7 @@ struct Pen {
 
 // Writes the nodes that the elements from..end open, the first at i, of type typ.
 fn write_path(
-    types: &[u32],
-    offs: &[u32],
+    types: &Types,
     ops: &[u32],
     args: &[u32],
     from: usize,
@@ -77,38 +77,35 @@ fn write_path(
     forms: &mut [u16],
     whats: &mut [u16],
 ) -> Pen
-    requires ready { Ready types.now offs.now }
-    requires typ_bound { typ < ntypes types.now }
+    requires typ_bound { typ < ntypes types.now.words.now }
     requires stretch { Stretch ops.now args.now from end }
     requires from_value { no_index (route ops.now args.now from (end - from)) ≡ true }
-    requires room { Room types.now (route ops.now args.now from (end - from)) typ i forms.old whats.old }
-    ensures { Pens types.now (route ops.now args.now from (end - from)) typ i forms.old whats.old forms.new whats.new result }
+    requires room { Room types.now.words.now (route ops.now args.now from (end - from)) typ i forms.old whats.old }
+    ensures { Pens types.now.words.now (route ops.now args.now from (end - from)) typ i forms.old whats.old forms.new whats.new result }
 {
     let mut fresh = folded(typ, 0);
     let mut p = i;
     for at in from..end {
         let op = ops[at];
         let arg = args[at];
-        write_open(types, fresh, op, arg, p, forms, whats);
+        write_open(types.words, fresh, op, arg, p, forms, whats);
         p += distance(op, arg);
-        fresh = step_folded(types, offs, fresh, op, arg).unwrap();
+        fresh = step_folded(types, fresh, op, arg).unwrap();
     }
     Pen { at: p, fresh }
 }
 
 // A walk's nodes are opened, and then one more, if there is one step more. w has the walk with that step.
 pub fn open_nodes(
-    types: &[u32],
-    offs: &[u32],
+    types: &Types,
     s: &mut State,
     w: Walk,
     ops: &[u32],
     args: &[u32],
     more: Option<More>,
 )
-    requires ready { Ready types.now offs.now }
-    requires opens { Opens types.now ops.now args.now s.old w more }
-    ensures { Carried types.now ops.now args.now s.old w more s.new }
+    requires opens { Opens types.now.words.now ops.now args.now s.old w more }
+    ensures { Carried types.now.words.now ops.now args.now s.old w more s.new }
 {
     let i = w.node;
     let n = s.nodes;
@@ -117,7 +114,6 @@ pub fn open_nodes(
     make_room(&mut s.whats, n, i, gap);
     let p = write_path(
         types,
-        offs,
         ops,
         args,
         w.passed,
@@ -129,7 +125,7 @@ pub fn open_nodes(
     );
     if let Some(m) = more {
         write_open(
-            types,
+            types.words,
             p.fresh,
             m.op,
             m.arg,
@@ -142,14 +138,13 @@ pub fn open_nodes(
 }
 
 // The node at i, of type t, is folded.
-pub fn fold_at(types: &[u32], offs: &[u32], s: &mut State, i: usize, t: usize)
-    requires ready { Ready types.now offs.now }
-    requires t_bound { t < ntypes types.now }
-    requires folds { Folds types.now s.old i t }
-    ensures { Folded types.now s.old i t s.new }
+pub fn fold_at(types: &Types, s: &mut State, i: usize, t: usize)
+    requires t_bound { t < ntypes types.now.words.now }
+    requires folds { Folds types.now.words.now s.old i t }
+    ensures { Folded types.now.words.now s.old i t s.new }
 {
     let n = s.nodes;
-    let e = node_end(types, offs, &s.forms, &s.whats, i, t);
+    let e = node_end(types, &s.forms, &s.whats, i, t);
     close_up(&mut s.forms, n, i, e);
     close_up(&mut s.whats, n, i, e);
     s.nodes -= e - i - 1;

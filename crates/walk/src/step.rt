@@ -4,7 +4,7 @@ ghost use Rattle.model.specs.Types.{ntypes, kids};
 ghost use Rattle.model.specs.Place.{index};
 ghost use Rattle.model.specs.Block.{elem_of};
 ghost use Rattle.records.specs.Here.{Here};
-ghost use Rattle.type_record.specs.Sizes.{Ready, VariantOf};
+ghost use Rattle.type_record.specs.Sizes.{VariantOf};
 ghost use Rattle.state.specs.Found.{OpenAt};
 ghost use Rattle.walk.specs.Way.{StepsAt};
 ghost use Rattle.walk.specs.Fresh.{folded, Bud, grows_open, grows_folded, grows};
@@ -13,7 +13,7 @@ use mir::items::{DEREF, DOWNCAST, FIELD};
 use refusal::Refusal;
 use state::nodes::fields_end;
 use type_record::kinds::Kind;
-use type_record::record::{casts, first_of, kid_count, kid_type, kind_at, owner_of};
+use type_record::types::Types;
 
 // What an unfold does at the node reached: the code of a step that no place has.
 pub const OPEN: u32 = 16;
@@ -34,8 +34,7 @@ pub struct Node {
 
 // From an open node.
 pub fn step_open<'a>(
-    types: &[u32],
-    offs: &[u32],
+    types: &Types,
     forms: &'a [u16],
     whats: &'a [u16],
     node: usize,
@@ -43,13 +42,12 @@ pub fn step_open<'a>(
     op: u32,
     arg: u32,
 ) -> Result<Node, Refusal>
-    requires ready { Ready types.now offs.now }
-    requires typ_bound { typ < ntypes types.now }
-    requires here { Here types.now forms.now whats.now node typ }
+    requires typ_bound { typ < ntypes types.now.words.now }
+    requires here { Here types.now.words.now forms.now whats.now node typ }
     requires open_at { OpenAt forms.now node }
-    ensures { StepsAt types.now forms.now whats.now node typ (elem_of op arg) result }
+    ensures { StepsAt types.now.words.now forms.now whats.now node typ (elem_of op arg) result }
 {
-    let k = kind_at(types, typ);
+    let k = types.kind_at(typ);
     let what = usize::from(whats[node]);
     match op {
         DEREF => {
@@ -58,24 +56,24 @@ pub fn step_open<'a>(
             }
             Ok(Node {
                 node: node + 1,
-                typ: kid_type(types, offs, typ, 0, 0),
+                typ: types.kid_type(typ, 0, 0),
             })
         }
         FIELD => {
             let f = arg as usize;
-            if k.pointer() || kid_count(types, offs, typ, what) <= f {
+            if k.pointer() || types.kid_count(typ, what) <= f {
                 return Err(Refusal::WrongStep);
             }
-            let u = owner_of(types, offs, typ, what);
-            let j = first_of(types, typ);
+            let u = types.owner_of(typ, what);
+            let j = types.first_of(typ);
             Ok(Node {
-                node: fields_end(types, offs, forms, whats, node + 1, u, j, f),
-                typ: kid_type(types, offs, typ, what, f),
+                node: fields_end(types, forms, whats, node + 1, u, j, f),
+                typ: types.kid_type(typ, what, f),
             })
         }
         DOWNCAST => {
             let v = arg as usize;
-            if !casts(types, typ, v) {
+            if !types.casts(typ, v) {
                 return Err(Refusal::WrongStep);
             }
             if v != what {
@@ -110,11 +108,10 @@ pub fn folded(typ: usize, added: usize) -> Fresh
 }
 
 // From a node that the walk has just opened.
-fn step_cast(types: &[u32], offs: &[u32], at: Fresh, op: u32, arg: u32) -> Result<Fresh, Refusal>
-    requires ready { Ready types.now offs.now }
-    requires bud { Bud types.now at }
+fn step_cast(types: &Types, at: Fresh, op: u32, arg: u32) -> Result<Fresh, Refusal>
+    requires bud { Bud types.now.words.now at }
     requires opened_value { at.opened ≡ true }
-    ensures { result ≡ grows_open types.now at.typ at.what at.added (elem_of op arg) }
+    ensures { result ≡ grows_open types.now.words.now at.typ at.what at.added (elem_of op arg) }
 {
     let typ = at.typ;
     let v = at.what;
@@ -122,14 +119,14 @@ fn step_cast(types: &[u32], offs: &[u32], at: Fresh, op: u32, arg: u32) -> Resul
         DEREF => Err(Refusal::WrongStep),
         FIELD => {
             let f = arg as usize;
-            if kid_count(types, offs, typ, v) <= f {
+            if types.kid_count(typ, v) <= f {
                 return Err(Refusal::WrongStep);
             }
-            Ok(folded(kid_type(types, offs, typ, v, f), at.added))
+            Ok(folded(types.kid_type(typ, v, f), at.added))
         }
         DOWNCAST => {
             let w = arg as usize;
-            if !casts(types, typ, w) {
+            if !types.casts(typ, w) {
                 return Err(Refusal::WrongStep);
             }
             if w != v {
@@ -142,13 +139,12 @@ fn step_cast(types: &[u32], offs: &[u32], at: Fresh, op: u32, arg: u32) -> Resul
 }
 
 // An unfold at a folded node.
-fn step_unfold(types: &[u32], offs: &[u32], typ: usize, added: usize) -> Result<Fresh, Refusal>
-    requires ready { Ready types.now offs.now }
-    requires typ_bound { typ < ntypes types.now }
+fn step_unfold(types: &Types, typ: usize, added: usize) -> Result<Fresh, Refusal>
+    requires typ_bound { typ < ntypes types.now.words.now }
     requires added_bound { added < 4294967296 }
-    ensures { result ≡ grows_folded types.now typ added index }
+    ensures { result ≡ grows_folded types.now.words.now typ added index }
 {
-    let k = kind_at(types, typ);
+    let k = types.kind_at(typ);
     if k.shut() {
         return Err(Refusal::WrongStep);
     }
@@ -159,52 +155,45 @@ fn step_unfold(types: &[u32], offs: &[u32], typ: usize, added: usize) -> Result<
         typ,
         opened: true,
         what: 0,
-        added: added + kid_count(types, offs, typ, 0),
+        added: added + types.kid_count(typ, 0),
     })
 }
 
 // From a folded node.
-pub fn step_folded(
-    types: &[u32],
-    offs: &[u32],
-    at: Fresh,
-    op: u32,
-    arg: u32,
-) -> Result<Fresh, Refusal>
-    requires ready { Ready types.now offs.now }
-    requires bud { Bud types.now at }
+pub fn step_folded(types: &Types, at: Fresh, op: u32, arg: u32) -> Result<Fresh, Refusal>
+    requires bud { Bud types.now.words.now at }
     requires added_bound { at.added < 4294967296 }
-    ensures { result ≡ grows types.now at (elem_of op arg) }
+    ensures { result ≡ grows types.now.words.now at (elem_of op arg) }
 {
     if at.opened {
-        return step_cast(types, offs, at, op, arg);
+        return step_cast(types, at, op, arg);
     }
     let typ = at.typ;
-    let k = kind_at(types, typ);
+    let k = types.kind_at(typ);
     match op {
         DEREF => {
             if !k.pointer() {
                 return Err(Refusal::WrongStep);
             }
-            Ok(folded(kid_type(types, offs, typ, 0, 0), at.added + 1))
+            Ok(folded(types.kid_type(typ, 0, 0), at.added + 1))
         }
         FIELD => {
             let f = arg as usize;
             if !k.fielded() {
                 return Err(Refusal::WrongStep);
             }
-            let n = kid_count(types, offs, typ, 0);
+            let n = types.kid_count(typ, 0);
             if n <= f {
                 return Err(Refusal::WrongStep);
             }
-            Ok(folded(kid_type(types, offs, typ, 0, f), at.added + n))
+            Ok(folded(types.kid_type(typ, 0, f), at.added + n))
         }
         DOWNCAST => {
             let v = arg as usize;
-            if !casts(types, typ, v) {
+            if !types.casts(typ, v) {
                 return Err(Refusal::WrongStep);
             }
-            let n = kid_count(types, offs, typ, v);
+            let n = types.kid_count(typ, v);
             Ok(Fresh {
                 typ,
                 opened: true,
@@ -212,6 +201,6 @@ pub fn step_folded(
                 added: at.added + n,
             })
         }
-        _ => step_unfold(types, offs, typ, at.added),
+        _ => step_unfold(types, typ, at.added),
     }
 }

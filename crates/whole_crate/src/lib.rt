@@ -5,7 +5,6 @@ ghost use Rattle.std.specs.Prelude.{◌-◌, ◌≤◌, length, take, drop, OnOk
 ghost use Rattle.model.specs.Words.{word};
 ghost use Rattle.model.specs.Crate.{records};
 ghost use Rattle.model.specs.Replay.{ReplayedEach};
-ghost use Rattle.type_record.specs.Sizes.{Ready};
 ghost use Rattle.fold_unfold.specs.Answers.{AllZero};
 ghost use Rattle.whole_crate.specs.Called.{Called, Goes, Numbered, Counted, Ended, Begun, BlankFrom, Alone};
 
@@ -14,6 +13,7 @@ use mir::split::record_end;
 use refusal::Refusal;
 use statements::Counts;
 use type_record::check_types::check_types;
+use type_record::types::Types;
 
 pub const MOST_FUNCTIONS: u32 = 64;
 
@@ -56,8 +56,7 @@ fn begun(types: &[u32], words: &[u32], offs: &mut [u32]) -> Result<(), Refusal>
 
 // The function whose record is the words from `at` to `end`, its statement record from word `used` of out on, where there are zeros.
 fn one(
-    types: &[u32],
-    offs: &[u32],
+    types: &Types,
     words: &[u32],
     at: usize,
     end: usize,
@@ -66,44 +65,34 @@ fn one(
     out: &mut [u32],
     used: usize,
 ) -> Result<Counts, Refusal>
-    requires ready { Ready types.now offs.now }
     requires at_le_end { at ≤ end }
     requires end_in_bounds { end ≤ length words.now }
     requires blank_from { BlankFrom out.old used }
-    ensures { Alone types.now (take (end - at) (drop at words.now)) forms.old whats.old out.old used forms.new whats.new out.new result }
+    ensures { Alone types.now.words.now (take (end - at) (drop at words.now)) forms.old whats.old out.old used forms.new whats.new out.new result }
 {
     forms.fill(0);
     whats.fill(0);
     let n = out.len();
-    function_statements(
-        types,
-        offs,
-        &words[at..end],
-        forms,
-        whats,
-        &mut out[used..n],
-    )
+    function_statements(types, &words[at..end], forms, whats, &mut out[used..n])
 }
 
 // All functions, in order, until one is refused.
 fn each(
-    types: &[u32],
-    offs: &[u32],
+    types: &Types,
     words: &[u32],
     forms: &mut [u16],
     whats: &mut [u16],
     out: &mut [u32],
 ) -> Result<(), CrateRefusal>
-    requires ready { Ready types.now offs.now }
     requires counted { Counted words.now }
     requires all_zero { AllZero forms.old whats.old out.old }
-    ensures { Goes types.now words.now forms.old whats.old out.old forms.new whats.new out.new result }
+    ensures { Goes types.now.words.now words.now forms.old whats.old out.old forms.new whats.new out.new result }
 {
     let mut at = 1;
     let mut used = 0;
     for k in 0..words[0] {
         let end = record_end(words, at);
-        match one(types, offs, words, at, end, forms, whats, out, used) {
+        match one(types, words, at, end, forms, whats, out, used) {
             Ok(g) => used += 2 + 2 * g.entries,
             Err(refusal) => {
                 out.fill(0);
@@ -136,7 +125,13 @@ pub fn crate_statements(
     whats.fill(0);
     out.fill(0);
     match begun(types, words, &mut offs) {
-        Ok(()) => each(types, &offs, words, forms, whats, out),
+        Ok(()) => {
+            let types = Types {
+                words: types,
+                offs: &offs,
+            };
+            each(&types, words, forms, whats, out)
+        }
         Err(refusal) => Err(CrateRefusal {
             refusal,
             position: 0,

@@ -12,6 +12,9 @@ pub returns-then-not-check_function : goal.returns-then-not-check_function
 returns-then-not-check_function c =
     denied_function c.requires.types_value (sym c.check_function.ensures ∙ c.if-not-check_function.true)
 
+pub invariant_of-record : goal.invariant_of-record
+invariant_of-record c = record { laid = (function_formed _ _ (sym c.check_function.ensures ∙ c.if-not-check_function.false)).laid }
+
 pub places_ok-requires : goal.places_ok-requires
 places_ok-requires c = function_formed _ _ (sym c.check_function.ensures ∙ c.if-not-check_function.false)
 

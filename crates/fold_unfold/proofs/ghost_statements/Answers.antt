@@ -19,12 +19,15 @@ returns-then-not-check_types c =
     let W = types_refuse (sym c.check_types.ensures.answer ∙ c.if-not-check_types.true) (c.fill.ensures.after (λ y e. e)) (c.fill-2.ensures.after (λ y e. e)) (c.fill-3.ensures.after (λ y e. e)) (c.fill-4.ensures.after (λ y e. e)) in
     record { whole_told = W; replayed = tt; began = tt; small = told_small W; numbered = told_numbered W }
 
+pub invariant_of-types : goal.invariant_of-types
+invariant_of-types c =
+    let p = c.if-not-check_types.false in
+    record { ready = record { typed = sym c.check_types.ensures.answer ∙ p; offsets = c.check_types.ensures.filled p } }
+
 pub marked_statements-requires : goal.marked_statements-requires
 marked_statements-requires c =
-    let p = c.if-not-check_types.false in
     let a = c.args in
     record {
-      ready = record { typed = sym c.check_types.ensures.answer ∙ p; offsets = c.check_types.ensures.filled p };
       all_zero = record {
         forms = own_zeros a.forms.now (c.fill.ensures.after (λ y e. e));
         whats = own_zeros a.whats.now (c.fill-2.ensures.after (λ y e. e));

@@ -19,8 +19,8 @@ returns-in_err-checked c =
 pub analyse-requires : goal.analyse-requires
 analyse-requires c =
     let z = c.requires.all_zero in
-    let C = c.in_ok-checked.ensures.clear refl c.args.offs.now c.requires.ready in
-    record { accepted = C.accepted; shared = C.shared; wiped = (z.forms, z.whats); store_long = (C.forms, C.whats) }
+    let C = c.in_ok-checked.ensures.clear refl c.args.types.now.offs.now c.args.types.now.ready in
+    record { shared = C.shared; wiped = (z.forms, z.whats); store_long = (C.forms, C.whats) }
 
 pub finish-g-requires : goal.finish-g-requires
 finish-g-requires c = accepts_counted c.in_ok-checked.ensures c.in-Ok.ensures

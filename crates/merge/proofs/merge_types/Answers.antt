@@ -53,7 +53,6 @@ write-requires c =
     let t = c.check_types-else-not-check_types.ensures in
     record {
       first_value = sym c.check_types.ensures.answer ∙ c.if-not-check_types.false;
-      ready = record { typed = sym t.answer ∙ c.if-not-check_types-2.false; offsets = t.filled c.if-not-check_types-2.false };
       second_in_bounds = omega (arith, c.merged_length-n.ensures);
     }
 

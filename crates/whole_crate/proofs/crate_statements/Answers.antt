@@ -11,11 +11,13 @@ returns-in-Err c =
     (c.fill.ensures.after (λ y e. e)) (c.fill-2.ensures.after (λ y e. e)) (c.fill-3.ensures.after (λ y e. e)) in
     record { called = L; replayed = tt; numbered = called_numbered a.types.now a.words.now a.forms.now a.whats.now a.out.now L }
 
+pub invariant_of-types : goal.invariant_of-types
+invariant_of-types c = record { ready = c.in-Ok.ensures.ready refl }
+
 pub each-requires : goal.each-requires
 each-requires c =
     let a = c.args in
     record {
-      ready = c.in-Ok.ensures.ready refl;
       counted = c.in-Ok.ensures.counted refl;
       all_zero = record {
         forms = own_zeros a.forms.now (c.fill.ensures.after (λ y e. e));

@@ -12,7 +12,7 @@ pub loop-k-init : goal.loop-k-init
 loop-k-init c =
     let a = c.args in
     let z = c.requires.all_zero in
-    going_first a.types.now a.words.now (length a.forms.now) (length a.whats.now) (length a.out.now) _ a.forms.now a.whats.now a.out.now c.requires.counted.0 z.forms z.whats z.blank refl refl
+    going_first a.types.now.words.now a.words.now (length a.forms.now) (length a.whats.now) (length a.out.now) _ a.forms.now a.whats.now a.out.now c.requires.counted.0 z.forms z.whats z.blank refl refl
 
 pub record_end-end-requires : goal.record_end-end-requires
 record_end-end-requires c = c.loop-k.invariant.within

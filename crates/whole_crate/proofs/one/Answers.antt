@@ -8,7 +8,6 @@ use Rattle.whole_crate.proofs.one.Goals as goal
 pub function_statements-requires : goal.function_statements-requires
 function_statements-requires c =
     let a = c.args in record {
-      ready = c.requires.ready;
       all_zero = record {
         forms = own_zeros a.forms.now (c.fill.ensures.after (λ y e. e));
         whats = own_zeros a.whats.now (c.fill-2.ensures.after (λ y e. e));

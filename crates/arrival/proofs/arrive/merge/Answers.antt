@@ -18,8 +18,8 @@ use Rattle.arrival.proofs.arrive.merge.Goals.{After-load_state-old, After-join_i
 -- the state loaded is the one stored
 loaded : (c : After-load_state-old) (o : Option Forest)
     → let a = c.args in
-    Saved a.types.now (local_types a.fun.now) a.forms.now a.whats.now (word (kept_in a.memo.now) a.c) o
-    → Loaded a.types.now (local_types a.fun.now) a.forms.now a.whats.now (word (kept_in a.memo.now) a.c) o c.load_state-old.result
+    Saved a.fun.now.types.words.now (local_types a.fun.now.record.words.now) a.forms.now a.whats.now (word (kept_in a.memo.now) a.c) o
+    → Loaded a.fun.now.types.words.now (local_types a.fun.now.record.words.now) a.forms.now a.whats.now (word (kept_in a.memo.now) a.c) o c.load_state-old.result
 loaded c o v =
     let e = c.stored-k.ensures in
     saved_loaded _ _ _ _ _ o v (λ d. c.if-k-eq0.false (e ∙ d)) e c.load_state-old.ensures
@@ -27,8 +27,8 @@ loaded c o v =
 -- what is left in the share is its join with the one that arrives
 met : (c : After-join_into) {S E : Forest}
     → let a = c.args in
-    Holds a.types.now (local_types a.fun.now) (value c.load_state-old.result) S → Holds a.types.now (local_types a.fun.now) (value a.s) E
-    → JoinedIn a.types.now S E c.join_into.result c.join_into.new.of c.join_into.new.ow
+    Holds a.fun.now.types.words.now (local_types a.fun.now.record.words.now) (value c.load_state-old.result) S → Holds a.fun.now.types.words.now (local_types a.fun.now.record.words.now) (value a.s) E
+    → JoinedIn a.fun.now.types.words.now S E c.join_into.result c.join_into.new.of c.join_into.new.ow
 met c {S} {E} g h = c.join_into.ensures S E (rw c.local_types.ensures g) (rw c.local_types.ensures h)
 
 pub save_state-requires : goal.save_state-requires
@@ -44,7 +44,7 @@ pub load_state-old-requires : goal.load_state-old-requires
 load_state-old-requires c = let v = c.requires.shelved in rw c.stored-k.ensures (saved_fits _ _ _ _ _ v.stored v.is)
 
 pub join_into-requires-clause-locals_value : goal.join_into-requires-clause-locals_value
-join_into-requires-clause-locals_value c = rw c.local_types.ensures (accepted_locals c.requires.accepted)
+join_into-requires-clause-locals_value c = rw c.local_types.ensures (accepted_locals c.args.fun.now.accepted)
 
 pub join_into-requires-clause-given : goal.join_into-requires-clause-given
 join_into-requires-clause-given c =

@@ -29,29 +29,29 @@ use Rattle.arrival.proofs.arrive.reconcile.Goals.{After-load_state-to, After-col
 -- the state loaded is the one stored
 loaded : (c : After-load_state-to) (S : Forest)
     → let a = c.args in
-    Full a.types.now (local_types a.fun.now) a.forms.now a.whats.now (word (kept_in a.memo.now) a.j.block) S
-    → Holds a.types.now (local_types a.fun.now) (value c.load_state-to.result) S
+    Full a.fun.now.types.words.now (local_types a.fun.now.record.words.now) a.forms.now a.whats.now (word (kept_in a.memo.now) a.j.block) S
+    → Holds a.fun.now.types.words.now (local_types a.fun.now.record.words.now) (value c.load_state-to.result) S
 loaded c S f = loaded_holds f (rw c.stored-k.ensures at c.load_state-to.ensures)
 
 -- what is collected
 told : (c : After-collect_fold_unfolds) (S E : Forest)
     → let a = c.args in
-    Holds a.types.now (local_types a.fun.now) (value c.load_state-to.result) S → Holds a.types.now (local_types a.fun.now) (value a.s) E
-    → Collects a.out.now (at_point a.o c.point_of.result) c.collect_fold_unfolds.new.out (collects a.types.now E S) c.collect_fold_unfolds.result
+    Holds a.fun.now.types.words.now (local_types a.fun.now.record.words.now) (value c.load_state-to.result) S → Holds a.fun.now.types.words.now (local_types a.fun.now.record.words.now) (value a.s) E
+    → Collects a.out.now (at_point a.o c.point_of.result) c.collect_fold_unfolds.new.out (collects a.fun.now.types.words.now E S) c.collect_fold_unfolds.result
 told c S E g h =
     let a = c.args in
     let P = c.collect_fold_unfolds.ensures E S (rw c.local_types.ensures h) (rw c.local_types.ensures g) in
-    subst (λ (u : Out). Collects a.out.now u c.collect_fold_unfolds.new.out (collects a.types.now E S) c.collect_fold_unfolds.result) c.at_point-p.ensures P
+    subst (λ (u : Out). Collects a.out.now u c.collect_fold_unfolds.new.out (collects a.fun.now.types.words.now E S) c.collect_fold_unfolds.result) c.at_point-p.ensures P
 
 -- the point is the jump's
 here : (c : After-collect_fold_unfolds)
     → let a = c.args in
-    (c.point_of.result.op, c.point_of.result.arg) ≡ point_entry (entry_point a.fun.now) (point a.fun.now a.j.entry a.j.item)
-here c = c.point_of.ensures c.args.fun.now c.requires.accepted.formed.laid.most_items c.requires.item_bound
+    (c.point_of.result.op, c.point_of.result.arg) ≡ point_entry (entry_point a.fun.now.record.words.now) (point a.fun.now.record.words.now a.j.entry a.j.item)
+here c = c.point_of.ensures c.args.fun.now.record.words.now c.args.fun.now.accepted.formed.laid.most_items c.requires.item_bound
 
 -- what is collected tells a dash
-dashed : (c : After-collect_fold_unfolds) (S E : Forest) (ts : List At) → collects c.args.types.now E S ≡ done ts → Each Dashed ts
-dashed c S E ts e = good_at (collects_dashed c.args.types.now E S) e
+dashed : (c : After-collect_fold_unfolds) (S E : Forest) (ts : List At) → collects c.args.fun.now.types.words.now E S ≡ done ts → Each Dashed ts
+dashed c S E ts e = good_at (collects_dashed c.args.fun.now.types.words.now E S) e
 
 pub load_state-to-requires : goal.load_state-to-requires
 load_state-to-requires c =
@@ -59,7 +59,7 @@ load_state-to-requires c =
     rw c.stored-k.ensures (saved_fits _ _ _ _ _ (some f.stored) f.is)
 
 pub collect_fold_unfolds-requires-clause-locals_value : goal.collect_fold_unfolds-requires-clause-locals_value
-collect_fold_unfolds-requires-clause-locals_value c = rw c.local_types.ensures (accepted_locals c.requires.accepted)
+collect_fold_unfolds-requires-clause-locals_value c = rw c.local_types.ensures (accepted_locals c.args.fun.now.accepted)
 
 pub collect_fold_unfolds-requires-clause-held_2 : goal.collect_fold_unfolds-requires-clause-held_2
 collect_fold_unfolds-requires-clause-held_2 c =

@@ -12,5 +12,5 @@ insert-requires-clause-r_bound c =
 
 pub returns : goal.returns
 returns c =
-    let f = c.args.fun.now in
+    let f = c.args.fun.now.words.now in
     c.insert.ensures.inserts (rank f) (nblocks f) c.args.c (facts_ranking (formed_accepted c.requires.formed)) c.requires.bit_for.0 (sym c.rank_of.ensures)

@@ -34,12 +34,12 @@ record Room (types fun memo waits forms whats : List ℕ) (c p : ℕ) : Type 0 w
   shelved : Shelved types fun memo (lent_of forms p) (lent_of whats p) c
 
 -- it is the share's
-number : (w : Start) → (word w.args.points.now w.args.j.block) ≡ share_number w.args.fun.now w.args.j.block
+number : (w : Start) → (word w.args.points.now w.args.j.block) ≡ share_number w.args.fun.now.record.words.now w.args.j.block
 number w = w.requires.shared.numbers _ w.requires.jump_in.1
 
 -- so there is room
 room : (w : Start) → let a = w.args in
-    Room a.types.now a.fun.now a.memo.now a.waits.now a.forms.now a.whats.now a.j.block (word w.args.points.now w.args.j.block)
+    Room a.fun.now.types.words.now a.fun.now.record.words.now a.memo.now a.waits.now a.forms.now a.whats.now a.j.block (word w.args.points.now w.args.j.block)
 room w =
     let a = w.args in
     let p = w.requires in
@@ -47,12 +47,12 @@ room w =
     let j = p.block_value in
     let q = number w in
     let l = p.jump_in.1 in
-    let few = p.accepted.formed.laid.most_blocks in
-    let N = share_most a.fun.now a.j.block l j in
+    let few = w.args.fun.now.accepted.formed.laid.most_blocks in
+    let N = share_most a.fun.now.record.words.now a.j.block l j in
     let I = share_inside R l j few in
     record {
       low = omega (arith, N.0, q);
-      high = omega (arith, N.1, q, few, points_few a.fun.now);
+      high = omega (arith, N.1, q, few, points_few a.fun.now.record.words.now);
       forms_room = omega (arith, I.0, q);
       whats_room = omega (arith, I.1, q);
       bit = (l, R.long.waits);
@@ -66,17 +66,17 @@ room w =
 
 -- what arrives where the pass records arrives where something is stored
 filled : (w : Start) → let a = w.args in
-    a.o.recording ≡ true → Filled a.types.now a.fun.now a.memo.now (lent_of a.forms.now (word w.args.points.now w.args.j.block)) (lent_of a.whats.now (word w.args.points.now w.args.j.block)) a.j.block
+    a.o.recording ≡ true → Filled a.fun.now.types.words.now a.fun.now.record.words.now a.memo.now (lent_of a.forms.now (word w.args.points.now w.args.j.block)) (lent_of a.whats.now (word w.args.points.now w.args.j.block)) a.j.block
 filled w t =
     let a = w.args in
     let p = w.requires in
     let O = p.ongoing in
-    let x = exit a.fun.now a.j.entry a.j.item a.j.block O.state in
+    let x = exit a.fun.now.record.words.now a.j.entry a.j.item a.j.block O.state in
     let R = (room w).shelved in
-    let v = lent_saved O.is p.jump_in.1 p.block_value p.accepted.formed.laid.most_blocks (number w) in
+    let v = lent_saved O.is p.jump_in.1 p.block_value w.args.fun.now.accepted.formed.laid.most_blocks (number w) in
     split_option (O.memory.kept a.j.block)
-    (λ e. absurd (O.goes (subst (λ (b : Bool). arrives a.types.now a.fun.now b x O.memory ≡ refused 0) (sym t) (second_none a.types.now a.fun.now x O.memory e))))
-    (λ S e. record { stored = S; is = subst (Saved a.types.now (local_types a.fun.now) (lent_of a.forms.now (word w.args.points.now w.args.j.block)) (lent_of a.whats.now (word w.args.points.now w.args.j.block)) (word (kept_in a.memo.now) a.j.block)) e v; block = R.block; long = R.long })
+    (λ e. absurd (O.goes (subst (λ (b : Bool). arrives a.fun.now.types.words.now a.fun.now.record.words.now b x O.memory ≡ refused 0) (sym t) (second_none a.fun.now.types.words.now a.fun.now.record.words.now x O.memory e))))
+    (λ S e. record { stored = S; is = subst (Saved a.fun.now.types.words.now (local_types a.fun.now.record.words.now) (lent_of a.forms.now (word w.args.points.now w.args.j.block)) (lent_of a.whats.now (word w.args.points.now w.args.j.block)) (word (kept_in a.memo.now) a.j.block)) e v; block = R.block; long = R.long })
 
 pub overflow_sub-a : goal.overflow_sub-a
 overflow_sub-a c = omega (arith, room (goal.at.overflow_sub-a c).Start)
@@ -95,7 +95,7 @@ returns-then-o c = λ m E M S H.
     let p = c.requires in
     let j = c.args.j in
     let l = p.jump_in.1 in
-    let few = p.accepted.formed.laid.most_blocks in
+    let few = c.args.fun.now.accepted.formed.laid.most_blocks in
     let f = c.reconcile.ensures in
     let (T, k, F) = saved_full _ _ _ _ _ (m.kept j.block) (lent_saved M l p.block_value few (number (goal.at.returns-then-o c).Start)) (λ z. omega (arith, (filled (goal.at.returns-then-o c).Start c.if-o.true).is.count, z)) in
     second_visits M l p.block_value few j.item j.entry E T k c.if-o.true S (f.reconciling T E F H) f.lengths
@@ -114,7 +114,7 @@ returns-in_err-arrive c = λ m E M S H.
     let p = c.requires in
     let j = c.args.j in
     let l = p.jump_in.1 in
-    let few = p.accepted.formed.laid.most_blocks in
+    let few = c.args.fun.now.accepted.formed.laid.most_blocks in
     let f = c.in_err-arrive.ensures in
     let q = number (goal.at.returns-in_err-arrive c).Start in
     let r = err_from_is_err_and c.from_residual.result c.from_residual.ensures.1 in
@@ -126,7 +126,7 @@ returns c = λ m E M S H.
     let p = c.requires in
     let j = c.args.j in
     let l = p.jump_in.1 in
-    let few = p.accepted.formed.laid.most_blocks in
+    let few = c.args.fun.now.accepted.formed.laid.most_blocks in
     let f = c.in_ok-arrive.ensures in
     let q = number (goal.at.returns c).Start in
     rw (q, f.lengths.visited) (first_visits M l p.block_value few (Ok tt) j.item j.entry E c.if-o.false S H.trees.fits (f.arriving (m.kept j.block) E (lent_saved M l p.block_value few q) H)

@@ -17,4 +17,4 @@ abbrev pub Counted : List ℕ → List ℕ → ℕ → Type 0
 Counted fn counts i = (c : ℕ) → c < nblocks fn → get_or counts c 0 ≡ count_below (aims fn c) i
 
 abbrev pub invariant-loop-i : goal.invariant-loop-i
-invariant-loop-i l = Counted l.fun l.counts l.i
+invariant-loop-i l = Counted l.fun.words.now l.counts l.i

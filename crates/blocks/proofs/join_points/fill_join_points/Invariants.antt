@@ -17,4 +17,4 @@ pub record Numbered (fn points : List ℕ) (k b : ℕ) : Type 0 where
   pub ahead : (c : ℕ) → b ≤ c → c < nblocks fn → get_or points c 0 ≡ incoming fn c
 
 abbrev pub invariant-loop-b : goal.invariant-loop-b
-invariant-loop-b l = Numbered l.fun l.points l.k l.b
+invariant-loop-b l = Numbered l.fun.words.now l.points l.k l.b

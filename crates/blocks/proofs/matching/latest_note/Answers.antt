@@ -48,7 +48,7 @@ module _ (fn : List ℕ) (q : Spot) (x : ℕ) {o : ℕ} (e : o ≡ op fn x) wher
 
 pub same_place-requires-clause-used_at : goal.same_place-requires-clause-used_at
 same_place-requires-clause-used_at c =
-    let l : c.loop-j.j - 1 < nitems c.args.fun.now = omega arith in
+    let l : c.loop-j.j - 1 < nitems c.args.fun.now.words.now = omega arith in
     (l, note_uses c.requires.formed l (sym c.op_of.ensures ∙ c.if-op_of-eq-NOTE.true))
 
 pub returns-then-same_place : goal.returns-then-same_place

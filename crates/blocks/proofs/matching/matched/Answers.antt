@@ -35,8 +35,8 @@ module _ {fn : List ℕ} (F : Formed fn) {b : ℕ} (l : b < nblocks fn) {s : ℕ
 pub returns-in_err-s : goal.returns-in_err-s
 returns-in_err-s c = rw c.from_residual.ensures (sym (matched_none _ _ (sym c.in_err-s.ensures)))
 
-pub uses_place-requires-clause-i_bound : goal.uses_place-requires-clause-i_bound
-uses_place-requires-clause-i_bound c = below c.requires.formed c.requires.b_bound (sym c.in_ok-s.ensures)
+pub uses_place-requires : goal.uses_place-requires
+uses_place-requires c = record { i_bound = below c.requires.formed c.requires.b_bound (sym c.in_ok-s.ensures) }
 
 pub returns-then-not-uses_place : goal.returns-then-not-uses_place
 returns-then-not-uses_place c = sym (matched_bare _ _ (sym c.in_ok-s.ensures) (sym c.uses_place.ensures ∙ c.if-not-uses_place.true))
@@ -53,9 +53,9 @@ returns-in_err-j c =
     let n = rw c.start_of.ensures at c.in_err-j.ensures in
     rw c.from_residual-in_err-j.ensures (sym (matched_plain _ _ (sym c.in_ok-s.ensures) (sym c.uses_place.ensures ∙ c.if-not-uses_place.false) (sym n)))
 
-pub root_before-requires-clause-i_bound : goal.root_before-requires-clause-i_bound
-root_before-requires-clause-i_bound c =
-    note_below c.requires.formed c.requires.b_bound (sym c.in_ok-s.ensures) (sym (rw c.start_of.ensures at c.in_ok-j.ensures))
+pub root_before-requires : goal.root_before-requires
+root_before-requires c =
+    record { i_bound = note_below c.requires.formed c.requires.b_bound (sym c.in_ok-s.ensures) (sym (rw c.start_of.ensures at c.in_ok-j.ensures)) }
 
 pub overflow_sub-result : goal.overflow_sub-result
 overflow_sub-result c =

@@ -5,17 +5,17 @@ use Rattle.blocks.proofs.Spots.{used_in}
 use Rattle.blocks.proofs.Same.{ops_told, args_told}
 use Rattle.blocks.proofs.matching.same_place.Goals as goal
 
-pub ops_from-requires-clause-range : goal.ops_from-requires-clause-range
-ops_from-requires-clause-range c = let p = c.requires in omega (arith, (used_in p.formed p.used_at.0 p.used_at.1).high)
+pub ops_from-requires : goal.ops_from-requires
+ops_from-requires c = record { range = let p = c.requires in omega (arith, (used_in p.formed p.used_at.0 p.used_at.1).high) }
 
-pub ops_from-requires-2-clause-range : goal.ops_from-requires-2-clause-range
-ops_from-requires-2-clause-range c = let p = c.requires in omega (arith, (used_in p.formed p.used_at_2.0 p.used_at_2.1).high)
+pub ops_from-requires-2 : goal.ops_from-requires-2
+ops_from-requires-2 c = record { range = let p = c.requires in omega (arith, (used_in p.formed p.used_at_2.0 p.used_at_2.1).high) }
 
-pub args_from-requires-clause-range : goal.args_from-requires-clause-range
-args_from-requires-clause-range c = let p = c.requires in omega (arith, (used_in p.formed p.used_at.0 p.used_at.1).high)
+pub args_from-requires : goal.args_from-requires
+args_from-requires c = record { range = let p = c.requires in omega (arith, (used_in p.formed p.used_at.0 p.used_at.1).high) }
 
-pub args_from-requires-then-eq-clause-range : goal.args_from-requires-then-eq-clause-range
-args_from-requires-then-eq-clause-range c = let p = c.requires in omega (arith, (used_in p.formed p.used_at_2.0 p.used_at_2.1).high)
+pub args_from-requires-then-eq : goal.args_from-requires-then-eq
+args_from-requires-then-eq c = record { range = let p = c.requires in omega (arith, (used_in p.formed p.used_at_2.0 p.used_at_2.1).high) }
 
 pub returns-then-eq : goal.returns-then-eq
 returns-then-eq c =

@@ -44,8 +44,8 @@ module _ (fn : List ℕ) (t i : ℕ) where
 pub loop-i-init : goal.loop-i-init
 loop-i-init c = from_start _ _ _ _ c.stop_of-i-end.ensures c.start_of-i.ensures
 
-pub op_of-requires-clause-i_bound : goal.op_of-requires-clause-i_bound
-op_of-requires-clause-i_bound c = omega (arith, block_stop c.requires.formed c.requires.b_bound)
+pub op_of-requires : goal.op_of-requires
+op_of-requires c = record { i_bound = omega (arith, block_stop c.requires.formed c.requires.b_bound) }
 
 pub returns-then-op_of-eq-SWITCH : goal.returns-then-op_of-eq-SWITCH
 returns-then-op_of-eq-SWITCH c =

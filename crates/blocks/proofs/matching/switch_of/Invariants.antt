@@ -15,4 +15,4 @@ abbrev pub switch_from : List ℕ → ℕ → ℕ → Option ℕ
 switch_from fn t i = first (collect_from (λ x. eqb (op fn x) 8) (λ x. x) (t - i) i)
 
 abbrev pub invariant-loop-i : goal.invariant-loop-i
-invariant-loop-i l = switch_item l.fun l.b ≡ switch_from l.fun l.i-end l.i
+invariant-loop-i l = switch_item l.fun.words.now l.b ≡ switch_from l.fun.words.now l.i-end l.i

@@ -68,11 +68,11 @@ none_yet fn = refl
 pub loop-i-init : goal.loop-i-init
 loop-i-init c = record { root = sym (root_zero _); passed = none_yet _ }
 
-pub ops_from-requires-clause-range : goal.ops_from-requires-clause-range
-ops_from-requires-clause-range c = omega (arith, root_low c.args.fun.now c.loop-i.i, c.root_behind-root.ensures)
+pub ops_from-requires : goal.ops_from-requires
+ops_from-requires c = record { range = omega (arith, root_low c.args.fun.now.words.now c.loop-i.i, c.root_behind-root.ensures) }
 
-pub args_from-requires-clause-range : goal.args_from-requires-clause-range
-args_from-requires-clause-range c = omega (arith, root_low c.args.fun.now c.loop-i.i, c.root_behind-root.ensures)
+pub args_from-requires : goal.args_from-requires
+args_from-requires c = record { range = omega (arith, root_low c.args.fun.now.words.now c.loop-i.i, c.root_behind-root.ensures) }
 
 pub used_ok-requires : goal.used_ok-requires
 used_ok-requires c =
@@ -88,7 +88,7 @@ returns-then-not-used_ok c =
 pub loop-i-preserved : goal.loop-i-preserved
 loop-i-preserved c =
     let L = c.loop-i in
-    let p : place_ok c.args.fun.now L.i ≡ true = elim c.else-uses_place.branch [
+    let p : place_ok c.args.fun.now.words.now L.i ≡ true = elim c.else-uses_place.branch [
       | else-uses_place-via-then-uses_place+else-not-used_ok w ↦
           sym (judged c.requires {i = L.i} (omega arith) (sym c.uses_place.ensures ∙ w.if-uses_place.true) c.root_behind-root.ensures _ _ w.ops_from.ensures w.args_from.ensures
           w.used_ok.result c.nlocals-l.result c.nlocals-l.ensures w.used_ok.ensures)

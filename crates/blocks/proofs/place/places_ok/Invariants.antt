@@ -7,4 +7,4 @@ use Rattle.model.specs.Block.{root_before, place_ok}
 use Rattle.blocks.proofs.place.places_ok.Given as goal
 
 abbrev pub invariant-loop-i : goal.invariant-loop-i
-invariant-loop-i l = record { root : l.root ≡ root_before l.fun l.i; passed : all (place_ok l.fun) l.i ≡ true }
+invariant-loop-i l = record { root : l.root ≡ root_before l.fun.words.now l.i; passed : all (place_ok l.fun.words.now) l.i ≡ true }

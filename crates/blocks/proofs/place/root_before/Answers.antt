@@ -8,4 +8,4 @@ use Rattle.blocks.proofs.place.root_before.Goals as goal
 pub returns : goal.returns
 returns c =
     let z : c.loop-j.j ≡ 0 = omega arith in
-    sym (c.loop-j.invariant ∙ ap (root_before c.args.fun.now) z ∙ root_zero c.args.fun.now)
+    sym (c.loop-j.invariant ∙ ap (root_before c.args.fun.now.words.now) z ∙ root_zero c.args.fun.now.words.now)

@@ -4,4 +4,4 @@ use Rattle.model.specs.Block.{root_before}
 use Rattle.blocks.proofs.place.root_before.Given as goal
 
 abbrev pub invariant-loop-j : goal.invariant-loop-j
-invariant-loop-j l = root_before l.fun l.i ≡ root_before l.fun l.j
+invariant-loop-j l = root_before l.fun.words.now l.i ≡ root_before l.fun.words.now l.j

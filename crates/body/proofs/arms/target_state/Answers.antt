@@ -13,7 +13,7 @@ pub overflow_cast-v : goal.overflow_cast-v
 overflow_cast-v c =
     let p = c.requires in
     let S = rw c.in-Some.is at p.leaves.sound in
-    omega (arith, opens_small _ _ _ _ _ (ready_typed p.accepted.ready) S.known (omega arith) (sym c.in-Some-opened_variant.ensures))
+    omega (arith, opens_small _ _ _ _ _ (ready_typed c.args.fun.now.accepted.ready) S.known (omega arith) (sym c.in-Some-opened_variant.ensures))
 
 pub open_variant-requires-clause-opening : goal.open_variant-requires-clause-opening
 open_variant-requires-clause-opening c =

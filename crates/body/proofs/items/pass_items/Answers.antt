@@ -47,7 +47,7 @@ pub loop-i-init : goal.loop-i-init
 loop-i-init c =
     let a = c.args in
     let z : a.items.from - a.items.from ≡ 0 = omega arith in
-    λ E h. rw z (done_passes (uses_none a.types.now a.fun.now a.items.entry a.items.from E) h (tells_none a.fun.now c.requires.counted))
+    λ E h. rw z (done_passes (uses_none a.fun.now.types.words.now a.fun.now.record.words.now a.items.entry a.items.from E) h (tells_none a.fun.now.record.words.now c.requires.counted))
 
 pub use_place-requires-clause-stated : goal.use_place-requires-clause-stated
 use_place-requires-clause-stated c = let S = c.requires.stated in passes_stated (c.loop-i.invariant S.state S.holds)

@@ -30,27 +30,27 @@ pointed : (fn : List ℕ) (i : ℕ) (entry : Bool) (o : Out) {r : Out} {p : Poin
     → point_of r ≡ point_entry (entry_point fn) (point fn entry i)
 pointed fn i entry o e P m l = ap point_of e ∙ P fn m l
 
-pub ops_from-ops-requires-clause-range : goal.ops_from-ops-requires-clause-range
-ops_from-ops-requires-clause-range c = let p = c.requires in place_range p.accepted p.i_bound p.i_value c.root_before-root.ensures
+pub ops_from-ops-requires : goal.ops_from-ops-requires
+ops_from-ops-requires c = record { range = let p = c.requires in place_range c.args.fun.now.accepted p.i_bound p.i_value c.root_before-root.ensures }
 
-pub args_from-args-requires-clause-range : goal.args_from-args-requires-clause-range
-args_from-args-requires-clause-range c = let p = c.requires in place_range p.accepted p.i_bound p.i_value c.root_before-root.ensures
+pub args_from-args-requires : goal.args_from-args-requires
+args_from-args-requires c = record { range = let p = c.requires in place_range c.args.fun.now.accepted p.i_bound p.i_value c.root_before-root.ensures }
 
 pub projection-requires : goal.projection-requires
 projection-requires c =
     let p = c.requires in
-    place_asked p.accepted p.i_bound p.i_value c.root_before-root.ensures _ _ _ c.local_types.ensures c.ops_from-ops.ensures c.args_from-args.ensures p.stated
+    place_asked c.args.fun.now.accepted p.i_bound p.i_value c.root_before-root.ensures _ _ _ c.local_types.ensures c.ops_from-ops.ensures c.args_from-args.ensures p.stated
 
 pub tell-requires-clause-both_long : goal.tell-requires-clause-both_long
 tell-requires-clause-both_long c =
     let p = c.requires in
-    let k = spot_args _ _ _ (place_spot p.accepted p.i_bound p.i_value c.root_before-root.ensures _ _ _ c.local_types.ensures c.ops_from-ops.ensures c.args_from-args.ensures) in
+    let k = spot_args _ _ _ (place_spot c.args.fun.now.accepted p.i_bound p.i_value c.root_before-root.ensures _ _ _ c.local_types.ensures c.ops_from-ops.ensures c.args_from-args.ensures) in
     (omega arith, omega arith)
 
 pub overflow_add-n : goal.overflow_add-n
 overflow_add-n c =
     let p = c.requires in
-    let A = p.accepted in
+    let A = c.args.fun.now.accepted in
     let s = placed_short A c.args.i p.i_bound p.i_value c.root_before-root.ensures _ _ _ c.local_types.ensures c.ops_from-ops.ensures c.args_from-args.ensures p.stated.holds c.in_ok-r.ensures c.in-Unfold.is in
     let (low, high) = place_range A p.i_bound p.i_value c.root_before-root.ensures in
     omega (arith, s.0, ap length c.ops_from-ops.ensures ∙ ops_long A.formed.laid _ c.args.i low high, A.formed.laid.most_items)
@@ -58,19 +58,19 @@ overflow_add-n c =
 pub tell-requires-in-Unfold-clause-both_long : goal.tell-requires-in-Unfold-clause-both_long
 tell-requires-in-Unfold-clause-both_long c =
     let p = c.requires in
-    placed_short p.accepted c.args.i p.i_bound p.i_value c.root_before-root.ensures _ _ _ c.local_types.ensures c.ops_from-ops.ensures c.args_from-args.ensures p.stated.holds c.in_ok-r.ensures c.in-Unfold.is
+    placed_short c.args.fun.now.accepted c.args.i p.i_bound p.i_value c.root_before-root.ensures _ _ _ c.local_types.ensures c.ops_from-ops.ensures c.args_from-args.ensures p.stated.holds c.in_ok-r.ensures c.in-Unfold.is
 
 pub tell-requires-in-Unfold-clause-number_bound : goal.tell-requires-in-Unfold-clause-number_bound
 tell-requires-in-Unfold-clause-number_bound c =
     let p = c.requires in
-    placed_small p.accepted c.args.i p.i_bound p.i_value c.root_before-root.ensures _ _ _ c.local_types.ensures c.ops_from-ops.ensures c.args_from-args.ensures p.stated.holds c.in_ok-r.ensures
+    placed_small c.args.fun.now.accepted c.args.i p.i_bound p.i_value c.root_before-root.ensures _ _ _ c.local_types.ensures c.ops_from-ops.ensures c.args_from-args.ensures p.stated.holds c.in_ok-r.ensures
 
 pub returns-in_err-r : goal.returns-in_err-r
 returns-in_err-r c E h =
     let p = c.requires in
     let r = err_from_is_err_and c.from_residual.result c.from_residual.ensures.1 in
     rw (r.1, r.2) (passes_alike
-    (placed_refused p.accepted c.args.i p.i_bound p.i_value c.root_before-root.ensures _ _ _ c.local_types.ensures c.ops_from-ops.ensures c.args_from-args.ensures h c.in_err-r.ensures c.args.entry)
+    (placed_refused c.args.fun.now.accepted c.args.i p.i_bound p.i_value c.root_before-root.ensures _ _ _ c.local_types.ensures c.ops_from-ops.ensures c.args_from-args.ensures h c.in_err-r.ensures c.args.entry)
     (alike_set c.at_point-p.ensures))
 
 pub returns-in-Nothing : goal.returns-in-Nothing
@@ -78,21 +78,21 @@ returns-in-Nothing c E h =
     let p = c.requires in
     let s = alike_set c.at_point-p.ensures in
     passes_alike
-    (placed_nothing p.accepted c.args.i p.i_bound p.i_value c.root_before-root.ensures _ _ _ c.local_types.ensures c.ops_from-ops.ensures c.args_from-args.ensures h c.in_ok-r.ensures c.args.entry c.in-Nothing.is (counted_alike s p.counted))
+    (placed_nothing c.args.fun.now.accepted c.args.i p.i_bound p.i_value c.root_before-root.ensures _ _ _ c.local_types.ensures c.ops_from-ops.ensures c.args_from-args.ensures h c.in_ok-r.ensures c.args.entry c.in-Nothing.is (counted_alike s p.counted))
     s
 
 pub returns-in-Fold : goal.returns-in-Fold
 returns-in-Fold c E h =
     let p = c.requires in
-    let at = pointed c.args.fun.now c.args.i c.args.entry c.args.o c.at_point-p.ensures c.point_of.ensures p.accepted.formed.laid.most_items p.i_bound in
+    let at = pointed c.args.fun.now.record.words.now c.args.i c.args.entry c.args.o c.at_point-p.ensures c.point_of.ensures c.args.fun.now.accepted.formed.laid.most_items p.i_bound in
     passes_alike
-    (placed_fold p.accepted c.args.i p.i_bound p.i_value c.root_before-root.ensures _ _ _ c.local_types.ensures c.ops_from-ops.ensures c.args_from-args.ensures h c.in_ok-r.ensures c.args.entry at c.in-Fold.is c.tell.ensures)
+    (placed_fold c.args.fun.now.accepted c.args.i p.i_bound p.i_value c.root_before-root.ensures _ _ _ c.local_types.ensures c.ops_from-ops.ensures c.args_from-args.ensures h c.in_ok-r.ensures c.args.entry at c.in-Fold.is c.tell.ensures)
     (alike_set c.at_point-p.ensures)
 
 pub returns-in-Unfold : goal.returns-in-Unfold
 returns-in-Unfold c E h =
     let p = c.requires in
-    let at = pointed c.args.fun.now c.args.i c.args.entry c.args.o c.at_point-p.ensures c.point_of.ensures p.accepted.formed.laid.most_items p.i_bound in
+    let at = pointed c.args.fun.now.record.words.now c.args.i c.args.entry c.args.o c.at_point-p.ensures c.point_of.ensures c.args.fun.now.accepted.formed.laid.most_items p.i_bound in
     passes_alike
-    (placed_unfold p.accepted c.args.i p.i_bound p.i_value c.root_before-root.ensures _ _ _ c.local_types.ensures c.ops_from-ops.ensures c.args_from-args.ensures h c.in_ok-r.ensures c.args.entry at c.in-Unfold.is c.tell-in-Unfold.ensures)
+    (placed_unfold c.args.fun.now.accepted c.args.i p.i_bound p.i_value c.root_before-root.ensures _ _ _ c.local_types.ensures c.ops_from-ops.ensures c.args_from-args.ensures h c.in_ok-r.ensures c.args.entry at c.in-Unfold.is c.tell-in-Unfold.ensures)
     (alike_set c.at_point-p.ensures)

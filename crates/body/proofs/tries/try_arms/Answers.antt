@@ -17,28 +17,32 @@ inside p q l m = (omega arith, omega arith)
 pub loop-i-init : goal.loop-i-init
 loop-i-init c =
     let p = c.requires in
-    (p.blank.long, match_first p.accepted p.b_bound p.cases c.start_of-i.ensures c.stop_of-i-end.ensures p.stated p.blank)
+    (p.blank.long, match_first c.args.fun.now.accepted p.b_bound p.cases c.start_of-i.ensures c.stop_of-i-end.ensures p.stated p.blank)
 
-pub op_of-requires-clause-i_bound : goal.op_of-requires-clause-i_bound
-op_of-requires-clause-i_bound c =
-    let p = c.requires in
-    let (m, l) = inside c.start_of-i.ensures c.stop_of-i-end.ensures c.loop-i.auto.i c.loop-i-test.true in
-    match_item p.accepted p.b_bound p.cases m l
+pub op_of-requires : goal.op_of-requires
+op_of-requires c =
+    record {
+      i_bound = let p = c.requires in
+          let (m, l) = inside c.start_of-i.ensures c.stop_of-i-end.ensures c.loop-i.auto.i c.loop-i-test.true in
+          match_item c.args.fun.now.accepted p.b_bound p.cases m l;
+    }
 
 pub overflow_sub-i : goal.overflow_sub-i
 overflow_sub-i c =
     let p = c.requires in
     let (m, l) = inside c.start_of-i.ensures c.stop_of-i-end.ensures c.loop-i.auto.i c.loop-i-test.true in
-    match_behind p.accepted p.b_bound p.cases m l (sym c.op_of.ensures ∙ c.if-op_of-eq-TARGET.true)
+    match_behind c.args.fun.now.accepted p.b_bound p.cases m l (sym c.op_of.ensures ∙ c.if-op_of-eq-TARGET.true)
 
-pub op_of-requires-then-op_of-eq-TARGET-clause-i_bound : goal.op_of-requires-then-op_of-eq-TARGET-clause-i_bound
-op_of-requires-then-op_of-eq-TARGET-clause-i_bound c =
-    let p = c.requires in
-    let (m, l) = inside c.start_of-i.ensures c.stop_of-i-end.ensures c.loop-i.auto.i c.loop-i-test.true in
-    omega (arith, match_item p.accepted p.b_bound p.cases m l)
+pub op_of-requires-then-op_of-eq-TARGET : goal.op_of-requires-then-op_of-eq-TARGET
+op_of-requires-then-op_of-eq-TARGET c =
+    record {
+      i_bound = let p = c.requires in
+          let (m, l) = inside c.start_of-i.ensures c.stop_of-i-end.ensures c.loop-i.auto.i c.loop-i-test.true in
+          omega (arith, match_item c.args.fun.now.accepted p.b_bound p.cases m l);
+    }
 
 pub try_other-requires-clause-sought : goal.try_other-requires-clause-sought
-try_other-requires-clause-sought c = let p = c.requires in match_sought p.accepted p.b_bound p.cases p.stated
+try_other-requires-clause-sought c = let p = c.requires in match_sought c.args.fun.now.accepted p.b_bound p.cases p.stated
 
 pub returns-then-op_of-ne-ARM : goal.returns-then-op_of-ne-ARM
 returns-then-op_of-ne-ARM c E h =
@@ -46,18 +50,18 @@ returns-then-op_of-ne-ARM c E h =
     let p = c.requires in
     let (m, l) = inside c.start_of-i.ensures c.stop_of-i-end.ensures L.auto.i c.loop-i-test.true in
     let t = sym c.op_of.ensures ∙ c.if-op_of-eq-TARGET.true in
-    let a : op c.args.fun.now (L.i - 1) ≡ 9 → ⊥ = λ z. c.if-op_of-ne-ARM.true (c.op_of-then-op_of-eq-TARGET.ensures ∙ z) in
-    let e = match_last p.accepted p.b_bound p.cases m l t a ∙ sym c.stop_of-i-end.ensures in
-    planned_ended p.cases.is (L.invariant.1 E h) (match_sought p.accepted p.b_bound p.cases p.stated) c.loop-i-test.true t a e (c.try_other.ensures E h)
+    let a : op c.args.fun.now.record.words.now (L.i - 1) ≡ 9 → ⊥ = λ z. c.if-op_of-ne-ARM.true (c.op_of-then-op_of-eq-TARGET.ensures ∙ z) in
+    let e = match_last c.args.fun.now.accepted p.b_bound p.cases m l t a ∙ sym c.stop_of-i-end.ensures in
+    planned_ended p.cases.is (L.invariant.1 E h) (match_sought c.args.fun.now.accepted p.b_bound p.cases p.stated) c.loop-i-test.true t a e (c.try_other.ensures E h)
 
 pub try_arm-requires-clause-sought : goal.try_arm-requires-clause-sought
-try_arm-requires-clause-sought c = let p = c.requires in match_sought p.accepted p.b_bound p.cases p.stated
+try_arm-requires-clause-sought c = let p = c.requires in match_sought c.args.fun.now.accepted p.b_bound p.cases p.stated
 
 pub try_arm-requires-clause-preceded : goal.try_arm-requires-clause-preceded
 try_arm-requires-clause-preceded c =
     let p = c.requires in
     let (m, l) = inside c.start_of-i.ensures c.stop_of-i-end.ensures c.loop-i.auto.i c.loop-i-test.true in
-    (match_behind p.accepted p.b_bound p.cases m l (sym c.op_of.ensures ∙ c.if-op_of-eq-TARGET.true), match_item p.accepted p.b_bound p.cases m l)
+    (match_behind c.args.fun.now.accepted p.b_bound p.cases m l (sym c.op_of.ensures ∙ c.if-op_of-eq-TARGET.true), match_item c.args.fun.now.accepted p.b_bound p.cases m l)
 
 pub returns-in_err-try_arm : goal.returns-in_err-try_arm
 returns-in_err-try_arm c E h =
@@ -84,4 +88,4 @@ pub returns : goal.returns
 returns c E h =
     let p = c.requires in
     let L = c.loop-i in
-    planned_match p.cases.is (L.invariant.1 E h) (match_sought p.accepted p.b_bound p.cases p.stated) (trying_over _ _ _ E _ L.i _ c.loop-i-test.false) each_none
+    planned_match p.cases.is (L.invariant.1 E h) (match_sought c.args.fun.now.accepted p.b_bound p.cases p.stated) (trying_over _ _ _ E _ L.i _ c.loop-i-test.false) each_none

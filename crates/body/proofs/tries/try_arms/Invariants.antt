@@ -9,4 +9,4 @@ use Rattle.body.proofs.tries.try_arms.Given as goal
 
 abbrev pub invariant-loop-i : goal.invariant-loop-i
 invariant-loop-i l = (length l.taken ≡ 16384)
-    × InEach l.types l.fun l.s (λ E. Leads l.types l.fun l.on E (exits_of l.types l.fun (matched l.fun l.b) (targets l.fun l.b) E) (trying l.types l.fun l.on E l.i-end l.i l.taken))
+    × InEach l.fun.types.words.now l.fun.record.words.now l.s (λ E. Leads l.fun.types.words.now l.fun.record.words.now l.on E (exits_of l.fun.types.words.now l.fun.record.words.now (matched l.fun.record.words.now l.b) (targets l.fun.record.words.now l.b) E) (trying l.fun.types.words.now l.fun.record.words.now l.on E l.i-end l.i l.taken))

@@ -31,25 +31,19 @@ module _ (Γ : List ℕ) (t x n v : ℕ) (h : variant_of x (variants Γ t) ≡ v
     onward : (d ≡ x → ⊥) → variant_of x (variants Γ t) ≡ variant_of x (variants_from Γ t (n - (v + 1)) (v + 1))
     onward f = rw add-one (further ∙ seek_later Γ t x (n - suc v) v (λ z. f (e ∙ z)))
 
-pub count_of-v-end-requires-clause-sized : goal.count_of-v-end-requires-clause-sized
-count_of-v-end-requires-clause-sized c = ready_sized c.requires.ready
-
 pub loop-v-init : goal.loop-v-init
 loop-v-init c = from_start _ _ _ c.count_of-v-end.result c.count_of-v-end.ensures
-
-pub discriminant-requires-clause-counted : goal.discriminant-requires-clause-counted
-discriminant-requires-clause-counted c = ready_counted c.requires.ready
 
 pub discriminant-requires-clause-v_bound_2 : goal.discriminant-requires-clause-v_bound_2
 discriminant-requires-clause-v_bound_2 c =
     let p = c.requires in
-    let w = (ready_typed p.ready).variants _ p.is_enum.0 p.is_enum.1 c.loop-v.v (omega arith) in
+    let w = (ready_typed c.args.types.now.ready).variants _ p.is_enum.0 p.is_enum.1 c.loop-v.v (omega arith) in
     omega (arith, w.below, p.is_enum.0)
 
 pub discriminant-requires-clause-nonzero : goal.discriminant-requires-clause-nonzero
 discriminant-requires-clause-nonzero c =
     let p = c.requires in
-    let T = ready_typed p.ready in
+    let T = ready_typed c.args.types.now.ready in
     let w = T.variants _ p.is_enum.0 p.is_enum.1 c.loop-v.v (omega arith) in
     T.discriminated _ (omega (arith, w.below, p.is_enum.0)) w.is_variant
 

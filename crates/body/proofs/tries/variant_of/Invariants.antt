@@ -5,4 +5,4 @@ use Rattle.model.specs.Body.{variants_from, variants, variant_of}
 use Rattle.body.proofs.tries.variant_of.Given as goal
 
 abbrev pub invariant-loop-v : goal.invariant-loop-v
-invariant-loop-v l = variant_of l.x (variants l.types l.t) ≡ variant_of l.x (variants_from l.types l.t (l.v-end - l.v) l.v)
+invariant-loop-v l = variant_of l.x (variants l.types.words.now l.t) ≡ variant_of l.x (variants_from l.types.words.now l.t (l.v-end - l.v) l.v)

@@ -8,11 +8,11 @@ use Rattle.collect.proofs.states.collect_locals.Goals as goal
 
 pub set_item-requires-clause-arg_bound : goal.set_item-requires-clause-arg_bound
 set_item-requires-clause-arg_bound c =
-    omega (arith, (locals_typed c.args.types.now c.args.locals.now c.requires.locals_value).few)
+    omega (arith, (locals_typed c.args.types.now.words.now c.args.locals.now c.requires.locals_value).few)
 
 pub collect_node-requires-clause-typ_bound : goal.collect_node-requires-clause-typ_bound
 collect_node-requires-clause-typ_bound c =
-    (locals_typed c.args.types.now c.args.locals.now c.requires.locals_value).below c.loop-l.l (omega arith)
+    (locals_typed c.args.types.now.words.now c.args.locals.now c.requires.locals_value).below c.loop-l.l (omega arith)
 
 pub collect_node-requires-clause-stands : goal.collect_node-requires-clause-stands
 collect_node-requires-clause-stands c =

@@ -9,7 +9,7 @@ use Rattle.collect.proofs.Collected.{owed_told}
 use Rattle.collect.proofs.states.folds_locals.Goals as goal
 
 pub node_end-i-requires-clause-t_bound : goal.node_end-i-requires-clause-t_bound
-node_end-i-requires-clause-t_bound c = (locals_typed c.args.types.now c.args.locals.now c.requires.locals_value).below 0 (omega arith)
+node_end-i-requires-clause-t_bound c = (locals_typed c.args.types.now.words.now c.args.locals.now c.requires.locals_value).below 0 (omega arith)
 
 pub node_end-i-requires-clause-here : goal.node_end-i-requires-clause-here
 node_end-i-requires-clause-here c = stands_here (local_stands c.args.locals.now 0 refl (omega arith) c.requires.stand_all)
@@ -22,11 +22,11 @@ loop-l-init c =
 
 pub set_item-requires-clause-arg_bound : goal.set_item-requires-clause-arg_bound
 set_item-requires-clause-arg_bound c =
-    omega (arith, (locals_typed c.args.types.now c.args.locals.now c.requires.locals_value).few)
+    omega (arith, (locals_typed c.args.types.now.words.now c.args.locals.now c.requires.locals_value).few)
 
 pub folds_node-g-requires-clause-typ_bound : goal.folds_node-g-requires-clause-typ_bound
 folds_node-g-requires-clause-typ_bound c =
-    (locals_typed c.args.types.now c.args.locals.now c.requires.locals_value).below c.loop-l.l (omega arith)
+    (locals_typed c.args.types.now.words.now c.args.locals.now c.requires.locals_value).below c.loop-l.l (omega arith)
 
 pub folds_node-g-requires-clause-stands : goal.folds_node-g-requires-clause-stands
 folds_node-g-requires-clause-stands c = local_stands c.args.locals.now c.loop-l.l refl (omega arith) c.loop-l.invariant.1.stands

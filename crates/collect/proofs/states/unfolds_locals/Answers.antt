@@ -8,11 +8,11 @@ use Rattle.collect.proofs.states.unfolds_locals.Goals as goal
 
 pub set_item-requires-clause-arg_bound : goal.set_item-requires-clause-arg_bound
 set_item-requires-clause-arg_bound c =
-    omega (arith, (locals_typed c.args.types.now c.args.locals.now c.requires.locals_value).few)
+    omega (arith, (locals_typed c.args.types.now.words.now c.args.locals.now c.requires.locals_value).few)
 
 pub unfolds_node-requires-clause-typ_bound : goal.unfolds_node-requires-clause-typ_bound
 unfolds_node-requires-clause-typ_bound c =
-    (locals_typed c.args.types.now c.args.locals.now c.requires.locals_value).below c.loop-l.l (omega arith)
+    (locals_typed c.args.types.now.words.now c.args.locals.now c.requires.locals_value).below c.loop-l.l (omega arith)
 
 pub unfolds_node-requires-clause-stands : goal.unfolds_node-requires-clause-stands
 unfolds_node-requires-clause-stands c =

@@ -5,4 +5,4 @@ use Rattle.collect.proofs.states.unfolds_locals.Given as goal
 
 abbrev pub invariant-loop-l : goal.invariant-loop-l
 invariant-loop-l l =
-    Long l.ops l.args × Opened l.types l.forms l.whats l.fn.locals l.initial.out l.fn.o l.out l.l l.g
+    Long l.ops l.args × Opened l.types.words.now l.forms l.whats l.fn.locals l.initial.out l.fn.o l.out l.l l.g

@@ -12,31 +12,28 @@ use Rattle.collectors.proofs.folds.+folds_fields_folds_node.Goals as goal
 
 pub folds_fields-returns-then-ks-eq0-clause-owing_all : goal.folds_fields-returns-then-ks-eq0-clause-owing_all
 folds_fields-returns-then-ks-eq0-clause-owing_all t c =
-    folds_none (none_left c.args.types.now c.args.k c.if-ks-eq0.true) c.requires.counted c.reached.ensures
-
-pub folds_fields-part_at-t-requires-clause-counted : goal.folds_fields-part_at-t-requires-clause-counted
-folds_fields-part_at-t-requires-clause-counted t c = ready_counted c.requires.ready
+    folds_none (none_left c.args.types.now.words.now c.args.k c.if-ks-eq0.true) c.requires.counted c.reached.ensures
 
 pub folds_fields-folds_node-a-requires : goal.folds_fields-folds_node-a-requires
 folds_fields-folds_node-a-requires t c =
     let more : 0 < c.args.k.kids.count = omega arith in
-    let one = one_left c.args.types.now c.args.k more c.part_at-t.ensures in
+    let one = one_left c.args.types.now.words.now c.args.k more c.part_at-t.ensures in
     let tree = stands_first c.requires.stand_all one c.hop-n.ensures.high in (
       omega (arith, c.decreases),
-      (c.requires.ready, (siblings_type c.requires.siblings more c.part_at-t.ensures, (tree, (long_kept c.requires.long (omega arith) (omega arith), c.requires.counted)))),
+      (siblings_type c.requires.siblings more c.part_at-t.ensures, (tree, (long_kept c.requires.long (omega arith) (omega arith), c.requires.counted))),
     )
 
 pub folds_fields-left-rest-requires : goal.folds_fields-left-rest-requires
-folds_fields-left-rest-requires t c = siblings_room c.requires.siblings (omega arith) c.requires.ready
+folds_fields-left-rest-requires t c = siblings_room c.requires.siblings (omega arith) c.args.types.now.ready
 
 pub folds_fields-folds_fields-requires : goal.folds_fields-folds_fields-requires
 folds_fields-folds_fields-requires t c =
     let more : 0 < c.args.k.kids.count = omega arith in
-    let one = one_left c.args.types.now c.args.k more c.part_at-t.ensures in
+    let one = one_left c.args.types.now.words.now c.args.k more c.part_at-t.ensures in
     let next = folds_next one c.folds_node-a.ensures.owing c.requires.stand_all in
     rw c.left-rest.ensures (
       omega (arith, next, c.decreases),
-      (c.requires.ready, (siblings_left c.requires.siblings more _ 0, (next.0, (long_kept c.requires.long (omega arith) (omega arith), next.3)))),
+      (siblings_left c.requires.siblings more _ 0, (next.0, (long_kept c.requires.long (omega arith) (omega arith), next.3))),
     )
 
 pub folds_fields-returns-clause-keeps : goal.folds_fields-returns-clause-keeps
@@ -48,7 +45,7 @@ folds_fields-returns-clause-keeps t c =
 pub folds_fields-returns-clause-owing_all : goal.folds_fields-returns-clause-owing_all
 folds_fields-returns-clause-owing_all t c =
     let more : 0 < c.args.k.kids.count = omega arith in
-    let one = one_left c.args.types.now c.args.k more c.part_at-t.ensures in
+    let one = one_left c.args.types.now.words.now c.args.k more c.part_at-t.ensures in
     let keeps = hop_keeps c.requires.long (omega (arith, c.requires.stand_all.room)) c.hop-n.ensures c.folds_node-a.ensures.keeps in
     let rest = rw c.left-rest.ensures at c.folds_fields.ensures.owing_all in
     let ways = way_next c.args.k 0 0 keeps in
@@ -65,10 +62,7 @@ folds_node-bounds-forms-i t c = omega (arith, stands_in c.requires.stands)
 
 pub folds_node-returns-then-forms-i-eq0-clause-owing : goal.folds_node-returns-then-forms-i-eq0-clause-owing
 folds_node-returns-then-forms-i-eq0-clause-owing t c =
-    fold_leaf (ready_typed c.requires.ready).known c.if-forms-i-eq0.true c.requires.counted c.reached.ensures
-
-pub folds_node-kind_at-kind-requires-clause-sized : goal.folds_node-kind_at-kind-requires-clause-sized
-folds_node-kind_at-kind-requires-clause-sized t c = ready_sized c.requires.ready
+    fold_leaf (ready_typed c.args.types.now.ready).known c.if-forms-i-eq0.true c.requires.counted c.reached.ensures
 
 pub folds_node-returns-then-eq-clause-owing : goal.folds_node-returns-then-eq-clause-owing
 folds_node-returns-then-eq-clause-owing t c =
@@ -95,12 +89,12 @@ folds_node-folds_fields-requires t c =
     let trees = stands_below c.requires.stands c.if-forms-i-eq0.false in
     let small : c.from.result < 65536 = omega (arith, c.from.ensures, c.type_inv.whats c.args.c.first) in (
       omega (arith, stands_in c.requires.stands, c.decreases),
-      (c.requires.ready, (kids_siblings c.kids_of.ensures c.requires.ready small, (rw c.kids_of.ensures.all trees, (c.requires.long, c.requires.counted)))),
+      (kids_siblings c.kids_of.ensures c.args.types.now.ready small, (rw c.kids_of.ensures.all trees, (c.requires.long, c.requires.counted))),
     )
 
 pub folds_node-returns-clause-owing : goal.folds_node-returns-clause-owing
 folds_node-returns-clause-owing t c =
     let other = eq_false _ Pointer c.kind_at-kind.ensures c.eq.ensures c.if-eq.false refl in
     let others = eq_false _ Reference c.kind_at-kind.ensures c.eq-2.ensures c.if-eq-2.false refl in
-    let told = fold_below c.if-forms-i-eq0.false (ready_typed c.requires.ready).known other others in
+    let told = fold_below c.if-forms-i-eq0.false (ready_typed c.args.types.now.ready).known other others in
     told c.kids_of.ensures.all c.kind_at-kind.ensures c.from.ensures c.folds_fields.ensures.owing_all

@@ -16,4 +16,4 @@ last_step-requires c =
 pub returns : goal.returns
 returns c =
     let a = c.args in
-    λ E q h is. rw (← last_cast a.types.now q a.v E) (lasts_told a.types.now a.locals.now a.ops.now a.args.now a.s.now _ _ _ _ _ c.map.ensures.cases (c.last_step.ensures E q h is))
+    λ E q h is. rw (← last_cast a.types.now.words.now q a.v E) (lasts_told a.types.now.words.now a.locals.now a.ops.now a.args.now a.s.now _ _ _ _ _ c.map.ensures.cases (c.last_step.ensures E q h is))

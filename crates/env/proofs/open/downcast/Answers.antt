@@ -15,4 +15,4 @@ open_last-requires c =
 pub returns : goal.returns
 returns c =
     let a = c.args in
-    λ E q h is. moves_same (last_cast a.types.now q a.v E) (c.open_last.ensures E q h is)
+    λ E q h is. moves_same (last_cast a.types.now.words.now q a.v E) (c.open_last.ensures E q h is)

@@ -21,7 +21,7 @@ returns-in_err-w c =
 pub last_at-requires : goal.last_at-requires
 last_at-requires c =
     let g = c.requires.asked.1.1 in
-    let d = walk_sited (unfold_walks (length c.args.locals.now)) g c.in_ok-w.ensures g.holds g.is in record { ready = c.requires.asked.0; arrived = (c.args.ops.now, c.args.args.now, d); staying = c.requires.staying }
+    let d = walk_sited (unfold_walks (length c.args.locals.now)) g c.in_ok-w.ensures g.holds g.is in record { arrived = (c.args.ops.now, c.args.args.now, d); staying = c.requires.staying }
 
 pub returns : goal.returns
 returns c =

@@ -11,4 +11,4 @@ open_last-requires c = record { asked = c.requires; staying = refl }
 pub returns : goal.returns
 returns c =
     let a = c.args in
-    λ E q h is. moves_same (last_unfold a.types.now a.locals.now q E) (c.open_last.ensures E q h is)
+    λ E q h is. moves_same (last_unfold a.types.now.words.now a.locals.now q E) (c.open_last.ensures E q h is)

@@ -44,7 +44,7 @@ bounds-args-0 c = omega (arith, length_args c.args.ops.now c.args.args.now c.req
 pub local_at-i-requires : goal.local_at-i-requires
 local_at-i-requires c =
     let g = c.requires.1.1 in
-    record { ready = c.requires.0; locals_value = c.requires.1.0; l_in_bounds = omega (arith, local_is g g.is, (limited g g.is).known); heres = record { trees = g.state; coded = g.holds.trees } }
+    record { locals_value = c.requires.1.0; l_in_bounds = omega (arith, local_is g g.is, (limited g g.is).known); heres = record { trees = g.state; coded = g.holds.trees } }
 
 pub bounds-locals-l : goal.bounds-locals-l
 bounds-locals-l c = let g = c.requires.1.1 in omega (arith, local_is g g.is, (limited g g.is).known)
@@ -52,8 +52,7 @@ bounds-locals-l c = let g = c.requires.1.1 in omega (arith, local_is g g.is, (li
 pub walk_along-requires : goal.walk_along-requires
 walk_along-requires c =
     let g = c.requires.1.1 in
-    let T = locals_typed c.args.types.now c.args.locals.now c.requires.1.0 in record {
-      ready = c.requires.0;
+    let T = locals_typed c.args.types.now.words.now c.args.locals.now c.requires.1.0 in record {
       typ_bound = T.below _ (omega (arith, local_is g g.is, (limited g g.is).known));
       here = record { tree = pick g.spot.local g.state; coded = coded_here g c.local_at-i.ensures g.state g.spot g.holds.trees g.is };
       short = record { spot = g.spot; is = g.is; short = (limited g g.is).short };
@@ -63,6 +62,6 @@ pub returns : goal.returns
 returns c =
     let a = c.args in
     λ E q h is.
-    subst (λ (i : ℕ). Walks a.types.now a.s.now.forms a.s.now.whats a.ops.now a.args.now i q.place (pick q.local E) c.walk_along.result)
+    subst (λ (i : ℕ). Walks a.types.now.words.now a.s.now.forms a.s.now.whats a.ops.now a.args.now i q.place (pick q.local E) c.walk_along.result)
     (c.local_at-i.ensures E h.trees ∙ ap (λ (k : ℕ). sizes (firsts k E)) (word_local a.ops.now a.args.now is))
     (c.walk_along.ensures (pick q.local E) q (coded_here c.requires.1.1 c.local_at-i.ensures E q h.trees is) is)

@@ -19,7 +19,7 @@ returns-in_err-w c =
 
 pub used_at-requires : goal.used_at-requires
 used_at-requires c =
-    let g = c.requires.1.1 in record { ready = c.requires.0; sited = walk_sited (fold_walks (length c.args.locals.now)) g c.in_ok-w.ensures g.holds g.is }
+    let g = c.requires.1.1 in record { sited = walk_sited (fold_walks (length c.args.locals.now)) g c.in_ok-w.ensures g.holds g.is }
 
 pub returns : goal.returns
 returns c =

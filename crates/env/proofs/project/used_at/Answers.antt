@@ -7,32 +7,32 @@ use Rattle.env.proofs.Uses.{unfold_opens, unfold_full, unfold_projects, fold_fol
 use Rattle.env.proofs.project.used_at.Goals as goal
 
 pub overflow_add-s : goal.overflow_add-s
-overflow_add-s c = record { fits = omega (arith, sited_few (ready_typed c.requires.ready) c.requires.sited, c.requires.sited.holds.shape.few) }
+overflow_add-s c = record { fits = omega (arith, sited_few (ready_typed c.args.types.now.ready) c.requires.sited, c.requires.sited.holds.shape.few) }
 
 pub returns-then-s-w-gt-MOST_NODES : goal.returns-then-s-w-gt-MOST_NODES
-returns-then-s-w-gt-MOST_NODES c = λ d k. projects_refused (unfold_full (ready_typed c.requires.ready) d c.if-w.true c.if-s-w-gt-MOST_NODES.true)
+returns-then-s-w-gt-MOST_NODES c = λ d k. projects_refused (unfold_full (ready_typed c.args.types.now.ready) d c.if-w.true c.if-s-w-gt-MOST_NODES.true)
 
 pub open_nodes-requires : goal.open_nodes-requires
 open_nodes-requires c =
-    record { ready = c.requires.ready; opens = unfold_opens (ready_typed c.requires.ready) c.requires.sited c.if-w.true c.if-s-w-gt-MOST_NODES.false }
+    record { opens = unfold_opens (ready_typed c.args.types.now.ready) c.requires.sited c.if-w.true c.if-s-w-gt-MOST_NODES.false }
 
 pub returns-then-w : goal.returns-then-w
-returns-then-w c = λ d k. unfold_projects (ready_typed c.requires.ready) d c.if-w.true c.if-s-w-gt-MOST_NODES.false k c.open_nodes.ensures
+returns-then-w c = λ d k. unfold_projects (ready_typed c.args.types.now.ready) d c.if-w.true c.if-s-w-gt-MOST_NODES.false k c.open_nodes.ensures
 
 pub offset_bounds-s-w : goal.offset_bounds-s-w
-offset_bounds-s-w c = record { fits = omega (arith, sited_within (ready_typed c.requires.ready) c.requires.sited) }
+offset_bounds-s-w c = record { fits = omega (arith, sited_within (ready_typed c.args.types.now.ready) c.requires.sited) }
 
 pub bounds-s-w : goal.bounds-s-w
-bounds-s-w c = omega (arith, sited_within (ready_typed c.requires.ready) c.requires.sited, c.requires.sited.holds.shape.forms_long)
+bounds-s-w c = omega (arith, sited_within (ready_typed c.args.types.now.ready) c.requires.sited, c.requires.sited.holds.shape.forms_long)
 
 pub fold_at-requires : goal.fold_at-requires
 fold_at-requires c =
-    let d = c.requires.sited in record { ready = c.requires.ready; t_bound = d.site.passing.midway.known; folds = fold_folds (ready_typed c.requires.ready) d (omega (arith, c.if-w.false, d.site.passing.most)) }
+    let d = c.requires.sited in record { t_bound = d.site.passing.midway.known; folds = fold_folds (ready_typed c.args.types.now.ready) d (omega (arith, c.if-w.false, d.site.passing.most)) }
 
 pub returns-then-open : goal.returns-then-open
 returns-then-open c =
-    λ d k. fold_projects (ready_typed c.requires.ready) d (omega (arith, c.if-w.false, d.site.passing.most)) c.if-open.true k c.fold_at.ensures
+    λ d k. fold_projects (ready_typed c.args.types.now.ready) d (omega (arith, c.if-w.false, d.site.passing.most)) c.if-open.true k c.fold_at.ensures
 
 pub returns : goal.returns
 returns c =
-    λ d k. nothing_projects (ready_typed c.requires.ready) d (omega (arith, c.if-w.false, d.site.passing.most)) c.if-open.false
+    λ d k. nothing_projects (ready_typed c.args.types.now.ready) d (omega (arith, c.if-w.false, d.site.passing.most)) c.if-open.false

@@ -11,17 +11,16 @@ use Rattle.fold_unfold.proofs.Both.{records_pass, first_sound, first_stops, firs
 use Rattle.fold_unfold.proofs.run.analyse.Goals as goal
 
 pub invert-requires : goal.invert-requires
-invert-requires c = record { formed = c.requires.accepted.formed; in_bounds = omega arith }
+invert-requires c = record { formed = c.args.fun.now.accepted.formed; in_bounds = omega arith }
 
 pub run-requires : goal.run-requires
 run-requires c =
     let p = c.requires in
     record {
-      accepted = p.accepted;
       shared = p.shared;
       inverted = c.invert.ensures;
       in_bounds = omega (arith, length-replicate {A = ℕ} 512 0);
-      begins = record { memory = blank; is = zeros_remembered p.wiped p.store_long; starts = refl; goes = first_sound (records_pass p.accepted) };
+      begins = record { memory = blank; is = zeros_remembered p.wiped p.store_long; starts = refl; goes = first_sound (records_pass c.args.fun.now.accepted) };
     }
 
 pub returns-in_err-run : goal.returns-in_err-run
@@ -33,11 +32,10 @@ pub run-requires-2 : goal.run-requires-2
 run-requires-2 c =
     let p = c.requires in
     record {
-      accepted = p.accepted;
       shared = p.shared;
       inverted = c.invert.ensures;
       in_bounds = omega (arith, c.run.auto.memo, length-replicate {A = ℕ} 512 0);
-      begins = second_begins (first_goes (c.in_ok-run.ensures blank refl (zeros_remembered p.wiped p.store_long))) (records_pass p.accepted);
+      begins = second_begins (first_goes (c.in_ok-run.ensures blank refl (zeros_remembered p.wiped p.store_long))) (records_pass c.args.fun.now.accepted);
     }
 
 pub returns : goal.returns

@@ -45,7 +45,7 @@ pub loop-b-preserved : goal.loop-b-preserved
 loop-b-preserved c =
     let R = facts_ranking (formed_accepted c.requires.formed) in
     let n = c.nblocks-b-end.ensures in
-    rw c.rank_of.ensures (named_next (rank c.args.fun.now) _ c.loop-b.blocks c.loop-b.b R (omega (arith, n)) (omega (arith, R.few, c.requires.in_bounds)) c.loop-b.invariant)
+    rw c.rank_of.ensures (named_next (rank c.args.fun.now.words.now) _ c.loop-b.blocks c.loop-b.b R (omega (arith, n)) (omega (arith, R.few, c.requires.in_bounds)) c.loop-b.invariant)
 
 pub returns : goal.returns
 returns c =

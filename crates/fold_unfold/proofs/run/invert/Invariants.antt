@@ -11,4 +11,4 @@ abbrev pub Named : (ℕ → ℕ) → List ℕ → ℕ → Type 0
 Named r blocks b = (c : ℕ) → c < b → word blocks (r c) ≡ c
 
 abbrev pub invariant-loop-b : goal.invariant-loop-b
-invariant-loop-b l = Named (rank l.fun) l.blocks l.b
+invariant-loop-b l = Named (rank l.fun.words.now) l.blocks l.b

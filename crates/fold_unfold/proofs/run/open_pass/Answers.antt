@@ -47,31 +47,29 @@ passes {Γ} {fn} {out} {out'} {recording} {p} {o} {n} {k} {r} {s} F z e b P =
 pub pass_items-requires : goal.pass_items-requires
 pass_items-requires c =
     let a = c.args in
-    let F = function_facts a.types.now a.fun.now c.requires.accepted.function in
+    let F = function_facts a.fun.now.types.words.now a.fun.now.record.words.now c.args.fun.now.accepted.function in
     let i = F.starts_inside 0 F.some_blocks in
     record {
-      accepted = c.requires.accepted;
       within = record { order = omega arith; inside = omega (arith, i, c.start_of.ensures) };
-      stated = record { state = leaves (local_types a.fun.now); holds = opening a.types.now F c.nlocals.ensures };
+      stated = record { state = leaves (local_types a.fun.now.record.words.now); holds = opening a.fun.now.types.words.now F c.nlocals.ensures };
       counted = rw c.begun-o.ensures (counted_begun a.out.now);
     }
 
 pub returns-in_err-q : goal.returns-in_err-q
 returns-in_err-q c =
     let r = err_from_is_err_and c.from_residual.result c.from_residual.ensures.1 in
-    let F = function_facts c.args.types.now c.args.fun.now c.requires.accepted.function in
+    let F = function_facts c.args.fun.now.types.words.now c.args.fun.now.record.words.now c.args.fun.now.accepted.function in
     rw (r.1, r.2) (λ m l R. entry_refused (passes F c.nlocals.ensures c.start_of.ensures c.begun-o.ensures c.in_err-q.ensures) _ m)
 
 pub begin-requires : goal.begin-requires
 begin-requires c =
     let a = c.args in
     let H = c.requires.opening in
-    let F = function_facts a.types.now a.fun.now c.requires.accepted.function in
+    let F = function_facts a.fun.now.types.words.now a.fun.now.record.words.now c.args.fun.now.accepted.function in
     let N = entry_passed (passes F c.nlocals.ensures c.start_of.ensures c.begun-o.ensures c.in_ok-q.ensures) in
-    let m = entered a.types.now a.fun.now a.recording N.entry.1 H.memory in
+    let m = entered a.fun.now.types.words.now a.fun.now.record.words.now a.recording N.entry.1 H.memory in
     let S = N.spoken H.memory H.lines in
     record {
-      accepted = c.requires.accepted;
       shared = c.requires.shared;
       ongoing = record {
         memory = m;
@@ -79,7 +77,7 @@ begin-requires c =
         spoken = spoken_own S;
         state = N.entry.0;
         holds = N.holds;
-        goes = λ d. H.goes (opens_jumps N H.memory ∙ subst (λ (r : Bool). jumps a.types.now a.fun.now r (nblocks a.fun.now) (exit a.fun.now true 0 0 N.entry.0) m ≡ refused 0) S.pen d);
+        goes = λ d. H.goes (opens_jumps N H.memory ∙ subst (λ (r : Bool). jumps a.fun.now.types.words.now a.fun.now.record.words.now r (nblocks a.fun.now.record.words.now) (exit a.fun.now.record.words.now true 0 0 N.entry.0) m ≡ refused 0) S.pen d);
       };
       beginning = (omega (arith, F.starts_inside 0 F.some_blocks), F.some_blocks);
     }
@@ -87,11 +85,11 @@ begin-requires c =
 pub returns : goal.returns
 returns c = λ m l R.
     let a = c.args in
-    let F = function_facts a.types.now a.fun.now c.requires.accepted.function in
+    let F = function_facts a.fun.now.types.words.now a.fun.now.record.words.now c.args.fun.now.accepted.function in
     let P = passes F c.nlocals.ensures c.start_of.ensures c.begun-o.ensures c.in_ok-q.ensures in
     let N = entry_passed P in
     let S = N.spoken m l in
     rw (opens_jumps N m)
     (visits_later (record { kept = refl; visited = refl; waits = refl; forms = refl; whats = refl }) P.same
-    (visits_pen (λ r. jumps a.types.now a.fun.now r (nblocks a.fun.now) (exit a.fun.now true 0 0 N.entry.0) (entered a.types.now a.fun.now a.recording N.entry.1 m)) S.pen
-    (c.begin.ensures (entered a.types.now a.fun.now a.recording N.entry.1 m) N.entry.0 (remembers_entered R a.recording N.entry.1) (spoken_own S) N.holds)))
+    (visits_pen (λ r. jumps a.fun.now.types.words.now a.fun.now.record.words.now r (nblocks a.fun.now.record.words.now) (exit a.fun.now.record.words.now true 0 0 N.entry.0) (entered a.fun.now.types.words.now a.fun.now.record.words.now a.recording N.entry.1 m)) S.pen
+    (c.begin.ensures (entered a.fun.now.types.words.now a.fun.now.record.words.now a.recording N.entry.1 m) N.entry.0 (remembers_entered R a.recording N.entry.1) (spoken_own S) N.holds)))

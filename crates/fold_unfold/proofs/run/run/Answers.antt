@@ -13,7 +13,7 @@ use Rattle.model.specs.Tree.{Forest}
 use Rattle.model.specs.Function.{nblocks}
 use Rattle.base.specs.Kinds.{types_known}
 use Rattle.refusal.specs.declared.Refusal.{Refusal}
-use Rattle.state.specs.Given.{Accepted}
+use Rattle.blocks.specs.Accepted.{Accepted}
 use Rattle.statements.specs.declared.Out.{Out}
 use Rattle.queue.specs.Bits.{no_bits}
 use Rattle.queue.specs.Popped.{Popping}
@@ -91,23 +91,23 @@ open_pass-requires-clause-opening c =
     record {
       memory = b.memory;
       is = remembers_cleared c.clear_visited.ensures b.is;
-      lines = starts_lines a.types.now a.fun.now a.recording b.memory b.starts;
-      goes = λ d. b.goes (opened_pass (records_pass p.accepted) a.recording b.memory b.starts ∙ rw d refl);
+      lines = starts_lines a.fun.now.types.words.now a.fun.now.record.words.now a.recording b.memory b.starts;
+      goes = λ d. b.goes (opened_pass (records_pass c.args.fun.now.accepted) a.recording b.memory b.starts ∙ rw d refl);
     }
 
 pub returns-in_err-o : goal.returns-in_err-o
 returns-in_err-o c =
     let r = err_from_is_err_and c.from_residual.result c.from_residual.ensures.1 in
-    rw (r.1, r.2) (λ m z R. going_refused (opened c.requires.accepted c.clear_visited.ensures c.in_err-o.ensures m z R))
+    rw (r.1, r.2) (λ m z R. going_refused (opened c.args.fun.now.accepted c.clear_visited.ensures c.in_err-o.ensures m z R))
 
 pub loop-b-init : goal.loop-b-init
-loop-b-init c = λ m z R. going_over (opened c.requires.accepted c.clear_visited.ensures c.in_ok-o.ensures m z R)
+loop-b-init c = λ m z R. going_over (opened c.args.fun.now.accepted c.clear_visited.ensures c.in_ok-o.ensures m z R)
 
 pub turn-requires-clause-stored : goal.turn-requires-clause-stored
 turn-requires-clause-stored c =
     let p = c.requires in
     let b = p.begins in
-    comes c.pop.new.waits p.accepted p.inverted (c.loop-b.invariant b.memory b.starts b.is) c.nblocks.ensures c.in-Some.ensures.popping c.pop.auto.waits b.goes
+    comes c.pop.new.waits c.args.fun.now.accepted p.inverted (c.loop-b.invariant b.memory b.starts b.is) c.nblocks.ensures c.in-Some.ensures.popping c.pop.auto.waits b.goes
 
 pub returns-in_err-o-2 : goal.returns-in_err-o-2
 returns-in_err-o-2 c =
@@ -115,26 +115,26 @@ returns-in_err-o-2 c =
     let r = err_from_is_err_and c.from_residual-in_err-o-2.result c.from_residual-in_err-o-2.ensures.1 in
     rw (r.1, r.2) (λ m z R.
     let A = c.loop-b.invariant m z R in
-    going_refused (stands_turns A (next c.pop.new.waits p.accepted p.inverted A c.nblocks.ensures c.in-Some.ensures.popping c.pop.auto.waits)
-    (turned c.pop.new.waits p.accepted p.inverted A c.nblocks.ensures c.in-Some.ensures.popping c.pop.auto.waits c.in_err-o-2.ensures) c.pop.auto.waits))
+    going_refused (stands_turns A (next c.pop.new.waits c.args.fun.now.accepted p.inverted A c.nblocks.ensures c.in-Some.ensures.popping c.pop.auto.waits)
+    (turned c.pop.new.waits c.args.fun.now.accepted p.inverted A c.nblocks.ensures c.in-Some.ensures.popping c.pop.auto.waits c.in_err-o-2.ensures) c.pop.auto.waits))
 
 pub loop-b-smaller : goal.loop-b-smaller
 loop-b-smaller c =
     let p = c.requires in
     let b = p.begins in
     let A = c.loop-b.invariant b.memory b.starts b.is in
-    stands_less (types_known c.args.types.now p.accepted.ready.typed) A (next c.pop.new.waits p.accepted p.inverted A c.nblocks.ensures c.in-Some.ensures.popping c.pop.auto.waits)
-    (turned c.pop.new.waits p.accepted p.inverted A c.nblocks.ensures c.in-Some.ensures.popping c.pop.auto.waits c.in_ok-o-2.ensures)
+    stands_less (types_known c.args.fun.now.types.words.now c.args.fun.now.accepted.ready.typed) A (next c.pop.new.waits c.args.fun.now.accepted p.inverted A c.nblocks.ensures c.in-Some.ensures.popping c.pop.auto.waits)
+    (turned c.pop.new.waits c.args.fun.now.accepted p.inverted A c.nblocks.ensures c.in-Some.ensures.popping c.pop.auto.waits c.in_ok-o-2.ensures)
 
 pub loop-b-preserved : goal.loop-b-preserved
 loop-b-preserved c = λ m z R.
     let p = c.requires in
     let A = c.loop-b.invariant m z R in
-    going_over (stands_turns A (next c.pop.new.waits p.accepted p.inverted A c.nblocks.ensures c.in-Some.ensures.popping c.pop.auto.waits)
-    (turned c.pop.new.waits p.accepted p.inverted A c.nblocks.ensures c.in-Some.ensures.popping c.pop.auto.waits c.in_ok-o-2.ensures) c.pop.auto.waits)
+    going_over (stands_turns A (next c.pop.new.waits c.args.fun.now.accepted p.inverted A c.nblocks.ensures c.in-Some.ensures.popping c.pop.auto.waits)
+    (turned c.pop.new.waits c.args.fun.now.accepted p.inverted A c.nblocks.ensures c.in-Some.ensures.popping c.pop.auto.waits c.in_ok-o-2.ensures) c.pop.auto.waits)
 
 pub returns : goal.returns
 returns c = λ m z R.
     let p = c.requires in
     let A = c.loop-b.invariant m z R in
-    stands_rests A (records_pass p.accepted) (pops_none c.pop.new.waits p.accepted.formed p.inverted A.remembers c.nblocks.ensures c.pop.ensures.popping c.in_default.is)
+    stands_rests A (records_pass c.args.fun.now.accepted) (pops_none c.pop.new.waits c.args.fun.now.accepted.formed p.inverted A.remembers c.nblocks.ensures c.pop.ensures.popping c.in_default.is)

@@ -17,7 +17,7 @@ pub settle_fields-settle_node-requires : goal.settle_fields-settle_node-requires
 settle_fields-settle_node-requires t c =
     let S = coded_split (rw c.first_kid-t.ensures.all at c.requires.heres.coded) in (
       omega (arith, c.decreases),
-      (c.requires.ready, (c.first_kid-t.ensures.known, (record { tree = S.head; coded = S.here }, c.requires.room))),
+      (c.first_kid-t.ensures.known, (record { tree = S.head; coded = S.here }, c.requires.room)),
     )
 
 pub settle_fields-returns-in_err-a : goal.settle_fields-returns-in_err-a
@@ -28,7 +28,7 @@ settle_fields-settle_fields-requires t c =
     let R = c.requires.room in
     let N = settles_next c.first_kid-t.ensures.all c.in_ok-a.ensures (c.settle_node.auto.of ∙ R.forms) (c.settle_node.auto.ow ∙ R.whats) c.requires.heres in
     let e = c.rest_of_kids.ensures in
-    (omega (arith, N, c.decreases), (c.requires.ready, (rw e c.first_kid-t.ensures.rest, (rw e N.0, N.1))))
+    (omega (arith, N, c.decreases), (rw e c.first_kid-t.ensures.rest, (rw e N.0, N.1)))
 
 pub settle_fields-returns-in_err-b : goal.settle_fields-returns-in_err-b
 settle_fields-returns-in_err-b t c =
@@ -61,13 +61,10 @@ settle_node-settle_fields-requires t c =
     let O = coded_opened c.requires.here.coded (stays_open _ _ _ (sym c.stays.ensures ∙ c.if-stays.true)) in (
       omega (arith, node_in c.requires.here, c.decreases),
       (
-        c.requires.ready,
+        c.kids_of-ks.ensures.fields,
         (
-          c.kids_of-ks.ensures.fields,
-          (
-            record { trees = O.children; coded = rw c.kids_of-ks.ensures.all O.below },
-            record { forms = simp length-set R.forms; whats = simp length-set R.whats; low = omega arith },
-          ),
+          record { trees = O.children; coded = rw c.kids_of-ks.ensures.all O.below },
+          record { forms = simp length-set R.forms; whats = simp length-set R.whats; low = omega arith },
         ),
       ),
     )
@@ -77,9 +74,9 @@ settle_node-returns-then-stays t c =
     let R = c.requires.room in
     let K = c.kind_at-kind.ensures in
     settle_stays (omega (arith, R)) (omega (arith, R)) (sym (stays_named _ _ _ K c.stays.ensures) ∙ c.if-stays.true)
-    (rw (c.kids_of-ks.ensures.all, c.below.ensures, K, below_named c.args.m (kind c.args.types.now c.args.t)) at c.settle_fields.ensures)
+    (rw (c.kids_of-ks.ensures.all, c.below.ensures, K, below_named c.args.m (kind c.args.types.now.words.now c.args.t)) at c.settle_fields.ensures)
 
 pub settle_node-returns : goal.settle_node-returns
 settle_node-returns t c =
-    settle_folds (ready_typed c.requires.ready).known c.requires.room (omega arith) (sym (stays_named _ _ _ c.kind_at-kind.ensures c.stays.ensures) ∙ c.if-stays.false)
+    settle_folds (ready_typed c.args.types.now.ready).known c.requires.room (omega arith) (sym (stays_named _ _ _ c.kind_at-kind.ensures c.stays.ensures) ∙ c.if-stays.false)
     c.node_end.ensures

@@ -19,10 +19,7 @@ join_fields-join_node-requires t c =
     let S = coded_split (rw c.first_kid-t.ensures.all at c.requires.heres.coded) in
     let T = coded_split (rw c.first_kid-t.ensures.all at c.requires.heres_2.coded) in (
       omega (arith, c.decreases),
-      (
-        c.requires.ready,
-        (c.first_kid-t.ensures.known, (record { tree = S.head; coded = S.here }, (record { tree = T.head; coded = T.here }, c.requires.room))),
-      ),
+      (c.first_kid-t.ensures.known, (record { tree = S.head; coded = S.here }, (record { tree = T.head; coded = T.here }, c.requires.room))),
     )
 
 pub join_fields-returns-in_err-a : goal.join_fields-returns-in_err-a
@@ -33,7 +30,7 @@ join_fields-join_fields-requires t c =
     let R = c.requires.room in
     let N = joins_next c.first_kid-t.ensures.all c.in_ok-a.ensures (c.join_node.auto.of ∙ R.forms) (c.join_node.auto.ow ∙ R.whats) c.requires.heres c.requires.heres_2 in
     let e = c.rest_of_kids-rest.ensures in
-    (omega (arith, N, c.decreases), (c.requires.ready, (rw e c.first_kid-t.ensures.rest, (rw e N.0, (rw e N.1, N.2)))))
+    (omega (arith, N, c.decreases), (rw e c.first_kid-t.ensures.rest, (rw e N.0, (rw e N.1, N.2))))
 
 pub join_fields-returns-in_err-b : goal.join_fields-returns-in_err-b
 join_fields-returns-in_err-b t c =
@@ -60,24 +57,24 @@ pub join_node-bounds-f2-j : goal.join_node-bounds-f2-j
 join_node-bounds-f2-j t c = (node_in c.requires.here_2).0
 
 pub join_node-returns-in_err-a : goal.join_node-returns-in_err-a
-join_node-returns-in_err-a t c = rw c.from_residual.ensures (join_first_full (ready_typed c.requires.ready).known c.if-f-eq0.true c.in_err-a.ensures)
+join_node-returns-in_err-a t c = rw c.from_residual.ensures (join_first_full (ready_typed c.args.types.now.ready).known c.if-f-eq0.true c.in_err-a.ensures)
 
 pub join_node-overflow_add-to : goal.join_node-overflow_add-to
 join_node-overflow_add-to t c = omega (arith, node_in c.requires.here)
 
 pub join_node-returns-then-f-eq0 : goal.join_node-returns-then-f-eq0
 join_node-returns-then-f-eq0 t c =
-    rw (stays_named _ _ _ c.kind_at-kind.ensures c.stays.ensures) (join_first (ready_typed c.requires.ready).known c.if-f-eq0.true c.in_ok-a.ensures)
+    rw (stays_named _ _ _ c.kind_at-kind.ensures c.stays.ensures) (join_first (ready_typed c.args.types.now.ready).known c.if-f-eq0.true c.in_ok-a.ensures)
 
 pub join_node-returns-in_err-a-2 : goal.join_node-returns-in_err-a-2
 join_node-returns-in_err-a-2 t c =
-    rw c.from_residual-in_err-a-2.ensures (join_second_full (ready_typed c.requires.ready).known c.if-f-eq0.false c.if-g-eq0.true c.in_err-a-2.ensures)
+    rw c.from_residual-in_err-a-2.ensures (join_second_full (ready_typed c.args.types.now.ready).known c.if-f-eq0.false c.if-g-eq0.true c.in_err-a-2.ensures)
 
 pub join_node-overflow_add-to-then-g-eq0 : goal.join_node-overflow_add-to-then-g-eq0
 join_node-overflow_add-to-then-g-eq0 t c = omega (arith, node_in c.requires.here_2)
 
 pub join_node-returns-then-g-eq0 : goal.join_node-returns-then-g-eq0
-join_node-returns-then-g-eq0 t c = join_second (ready_typed c.requires.ready).known c.if-f-eq0.false c.if-g-eq0.true c.in_ok-a-2.ensures
+join_node-returns-then-g-eq0 t c = join_second (ready_typed c.args.types.now.ready).known c.if-f-eq0.false c.if-g-eq0.true c.in_ok-a-2.ensures
 
 pub join_node-bounds-w1-i : goal.join_node-bounds-w1-i
 join_node-bounds-w1-i t c = (node_in c.requires.here).1
@@ -96,15 +93,12 @@ join_node-join_fields-requires t c =
     let A = c.kids_of-ks.ensures.all in (
       omega (arith, node_in c.requires.here, c.decreases),
       (
-        c.requires.ready,
+        c.kids_of-ks.ensures.fields,
         (
-          c.kids_of-ks.ensures.fields,
+          record { trees = O.children; coded = rw A O.below },
           (
-            record { trees = O.children; coded = rw A O.below },
-            (
-              record { trees = P.children; coded = rw (A, c.if-w-w2.true) P.below },
-              record { forms = simp length-set R.forms; whats = simp length-set R.whats; low = omega arith },
-            ),
+            record { trees = P.children; coded = rw (A, c.if-w-w2.true) P.below },
+            record { forms = simp length-set R.forms; whats = simp length-set R.whats; low = omega arith },
           ),
         ),
       ),
@@ -114,7 +108,7 @@ pub join_node-returns-then-w-w2 : goal.join_node-returns-then-w-w2
 join_node-returns-then-w-w2 t c =
     let R = c.requires.room in
     join_same c.if-f-eq0.false c.if-g-eq0.false (omega (arith, R)) (omega (arith, R)) c.if-w-w2.true
-    (rw (c.kids_of-ks.ensures.all, c.below.ensures, c.kind_at-kind.ensures, below_named c.args.m (kind c.args.types.now c.args.t)) at c.join_fields.ensures)
+    (rw (c.kids_of-ks.ensures.all, c.below.ensures, c.kind_at-kind.ensures, below_named c.args.m (kind c.args.types.now.words.now c.args.t)) at c.join_fields.ensures)
 
 pub join_node-returns : goal.join_node-returns
 join_node-returns t c =

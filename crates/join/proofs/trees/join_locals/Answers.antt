@@ -7,7 +7,7 @@ use Rattle.join.proofs.trees.join_locals.Goals.{then-changed, else-changed}
 
 pub join_node-requires-clause-t_bound : goal.join_node-requires-clause-t_bound
 join_node-requires-clause-t_bound c =
-    (locals_typed c.args.types.now c.args.locals.now c.requires.locals_value).below c.loop-t.t-index c.loop-t-test.true
+    (locals_typed c.args.types.now.words.now c.args.locals.now c.requires.locals_value).below c.loop-t.t-index c.loop-t-test.true
 
 pub join_node-requires-clause-here : goal.join_node-requires-clause-here
 join_node-requires-clause-here c = local_first c.loop-t.invariant c.loop-t-test.true

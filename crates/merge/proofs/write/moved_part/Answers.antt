@@ -22,25 +22,18 @@ module _ (k j : ℕ) where
 
 -- a word
 pub returns-then-is_value : goal.returns-then-is_value
-unfolding part
 returns-then-is_value c =
-    let e = value_parts (kind c.args.types.now c.args.t) c.args.j (sym c.is_value.ensures ∙ c.if-is_value.true) in
-    omega (
-      arith,
-      c.small.ensures,
-      c.part_at-p.ensures,
-      moved_value c.args.n c.args.types.now c.args.t c.args.j e.0 e.1,
-      c.type_inv.types (2 + ntypes c.args.types.now + ntypes c.args.types.now + offset c.args.types.now c.args.t + c.args.j),
-    )
+    let e = value_parts (kind c.args.types.now.words.now c.args.t) c.args.j (sym c.is_value.ensures ∙ c.if-is_value.true) in
+    omega (arith, c.word_at-p.ensures, moved_value c.args.n c.args.types.now.words.now c.args.t c.args.j e.0 e.1)
 
-pub overflow_add-n : goal.overflow_add-n
-overflow_add-n c =
-    let g = types_typed c.args.types.now c.requires.ready.typed in
-    let k = no_value (kind c.args.types.now c.args.t) c.args.j (sym c.is_value.ensures ∙ c.if-is_value.false) in
-    omega (arith, c.part_at-p.ensures, part_type g c.args.t c.args.j c.requires.t_bound c.requires.j_bound k, g.few, c.requires)
+pub overflow_add-result : goal.overflow_add-result
+overflow_add-result c =
+    let g = types_typed c.args.types.now.words.now c.args.types.now.ready.typed in
+    let k = no_value (kind c.args.types.now.words.now c.args.t) c.args.j (sym c.is_value.ensures ∙ c.if-is_value.false) in
+    omega (arith, c.word_at-p.ensures, part_type g c.args.t c.args.j c.requires.t_bound c.requires.j_bound k, g.few, c.requires)
 
 pub returns-else-is_value : goal.returns-else-is_value
 returns-else-is_value c =
-    let g = types_typed c.args.types.now c.requires.ready.typed in
-    let k = no_value (kind c.args.types.now c.args.t) c.args.j (sym c.is_value.ensures ∙ c.if-is_value.false) in
-    omega (arith, c.small-else-is_value.ensures, c.part_at-p.ensures, part_type g c.args.t c.args.j c.requires.t_bound c.requires.j_bound k, g.few, c.requires, moved_type c.args.n c.args.types.now c.args.t c.args.j k)
+    let g = types_typed c.args.types.now.words.now c.args.types.now.ready.typed in
+    let k = no_value (kind c.args.types.now.words.now c.args.t) c.args.j (sym c.is_value.ensures ∙ c.if-is_value.false) in
+    omega (arith, c.word_at-p.ensures, part_type g c.args.t c.args.j c.requires.t_bound c.requires.j_bound k, g.few, c.requires, moved_type c.args.n c.args.types.now.words.now c.args.t c.args.j k)

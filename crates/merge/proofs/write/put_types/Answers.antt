@@ -6,4 +6,4 @@ use Rattle.merge.proofs.write.put_types.Goals as goal
 pub put_parts-q-requires-clause-t_in_bounds : goal.put_parts-q-requires-clause-t_in_bounds
 put_parts-q-requires-clause-t_in_bounds c =
     let L = c.loop-t in
-    omega (arith, L.invariant.next, parts_inside (types_typed c.args.types.now c.requires.ready.typed) L.t c.loop-t-test.true, c.requires.types_in_bounds)
+    omega (arith, L.invariant.next, parts_inside (types_typed c.args.types.now.words.now c.args.types.now.ready.typed) L.t c.loop-t-test.true, c.requires.types_in_bounds)

@@ -8,6 +8,6 @@ use Rattle.merge.proofs.write.put_types.Given as goal
 
 abbrev pub invariant-loop-t : goal.invariant-loop-t
 invariant-loop-t l = record {
-  next : l.q ≡ l.at + offset l.types l.t;
-  parts : l.out ≡ sets l.initial.out l.at (moved_below l.n l.types l.t);
+  next : l.q ≡ l.at + offset l.types.words.now l.t;
+  parts : l.out ≡ sets l.initial.out l.at (moved_below l.n l.types.words.now l.t);
 }

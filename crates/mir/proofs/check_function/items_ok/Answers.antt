@@ -11,20 +11,20 @@ use Rattle.mir.proofs.check_function.items_ok.Goals as goal
 pub loop-i-init : goal.loop-i-init
 unfolding items_ok
 loop-i-init c =
-    let fn = c.args.fun.now in
+    let fn = c.args.fun.now.words.now in
     let e : (nitems fn) - 0 ≡ nitems fn = omega arith in
     (search rules, ap (λ (k : ℕ). items_from fn k 0 0 0) e)
 
 pub returns-then-not-may_begin : goal.returns-then-not-may_begin
 returns-then-not-may_begin c =
-    let fn = c.args.fun.now in
+    let fn = c.args.fun.now.words.now in
     let e = sym c.begins.ensures ∙ c.if-begins.true in
     let o = sym c.may_begin.ensures ∙ c.if-not-may_begin.true in
     sym (items_torn fn (nitems fn) c.loop-i.i c.loop-i.b c.loop-i.before (omega arith) e o) ∙ c.loop-i.invariant.1
 
 pub returns-then-not-item_ok : goal.returns-then-not-item_ok
 returns-then-not-item_ok c =
-    let fn = c.args.fun.now in
+    let fn = c.args.fun.now.words.now in
     let n = nitems fn in
     let l = c.loop-i in
     -- what is tested behind what, once the block that begins at the item is counted
@@ -39,7 +39,7 @@ returns-then-not-item_ok c =
 
 pub loop-i-preserved : goal.loop-i-preserved
 loop-i-preserved c =
-    let fn = c.args.fun.now in
+    let fn = c.args.fun.now.words.now in
     let n = nitems fn in
     let l = c.loop-i in
     -- what is tested behind what, once the block that begins at the item is counted
@@ -57,5 +57,5 @@ loop-i-preserved c =
 
 pub returns : goal.returns
 returns c =
-    let fn = c.args.fun.now in
+    let fn = c.args.fun.now.words.now in
     sym (items_over fn (nitems fn) c.loop-i.i c.loop-i.b c.loop-i.before (omega arith)) ∙ c.loop-i.invariant.1

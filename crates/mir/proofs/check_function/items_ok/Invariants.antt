@@ -5,4 +5,4 @@ use Rattle.model.specs.Function.{nitems, items_from, items_ok}
 use Rattle.mir.proofs.check_function.items_ok.Given as goal
 
 abbrev pub invariant-loop-i : goal.invariant-loop-i
-invariant-loop-i l = (l.b ≤ l.i) × (items_from l.fun (nitems l.fun - l.i) l.i l.b l.before ≡ items_ok l.fun)
+invariant-loop-i l = (l.b ≤ l.i) × (items_from l.fun.words.now (nitems l.fun.words.now - l.i) l.i l.b l.before ≡ items_ok l.fun.words.now)

@@ -57,29 +57,29 @@ module _ (fn : List ℕ) (b : ℕ) where
 
 pub loop-b-init : goal.loop-b-init
 unfolding unseen all
-loop-b-init c = (refl, all_none (ranked c.args.fun.now), λ r h. ap not (get_or-replicate 256 r false false h))
+loop-b-init c = (refl, all_none (ranked c.args.fun.now.words.now), λ r h. ap not (get_or-replicate 256 r false false h))
 
 pub returns-then-n-r : goal.returns-then-n-r
 returns-then-n-r c =
-    let fn = c.args.fun.now in
+    let fn = c.args.fun.now.words.now in
     sym (ranks_are fn ∙ all_fails (ranked fn) (nblocks fn) c.loop-b.b (omega arith) (ranked_past fn c.loop-b.b (omega arith)))
 
 pub returns-then-seen-r : goal.returns-then-seen-r
 returns-then-seen-r c =
-    let fn = c.args.fun.now in
-    sym (ranks_are fn ∙ all_fails (ranked fn) (nblocks fn) c.loop-b.b (omega arith) (met fn _ _ c.loop-b.seen c.loop-b.invariant.2 c.rank_of-r.ensures (omega (arith, c.requires.most_blocks)) (omega arith) c.if-seen-r.true))
+    let fn = c.args.fun.now.words.now in
+    sym (ranks_are fn ∙ all_fails (ranked fn) (nblocks fn) c.loop-b.b (omega arith) (met fn _ _ c.loop-b.seen c.loop-b.invariant.2 c.rank_of-r.ensures (omega (arith, c.args.fun.now.laid.most_blocks)) (omega arith) c.if-seen-r.true))
 
 pub loop-b-preserved : goal.loop-b-preserved
 loop-b-preserved c =
-    let fn = c.args.fun.now in
+    let fn = c.args.fun.now.words.now in
     let i = c.loop-b.invariant in
     let e = c.rank_of-r.ensures in (
       length-set c.loop-b.seen c.rank_of-r.result true ∙ i.0,
-      all_next (ranked fn) _ i.1 (met fn _ _ c.loop-b.seen i.2 e (omega (arith, c.requires.most_blocks)) (omega arith) c.if-seen-r.false),
-      rw e (marks_next fn c.loop-b.b c.loop-b.seen i.0 (omega (arith, c.requires.most_blocks, e)) i.2),
+      all_next (ranked fn) _ i.1 (met fn _ _ c.loop-b.seen i.2 e (omega (arith, c.args.fun.now.laid.most_blocks)) (omega arith) c.if-seen-r.false),
+      rw e (marks_next fn c.loop-b.b c.loop-b.seen i.0 (omega (arith, c.args.fun.now.laid.most_blocks, e)) i.2),
     )
 
 pub returns : goal.returns
 returns c =
-    let fn = c.args.fun.now in
+    let fn = c.args.fun.now.words.now in
     all_done (ranked fn) (nblocks fn) c.loop-b.b (omega arith) c.loop-b.invariant.1 ∙ sym (ranks_are fn)

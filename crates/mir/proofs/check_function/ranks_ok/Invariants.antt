@@ -22,4 +22,4 @@ abbrev pub Marks : List ℕ → ℕ → List Bool → Type 0
 Marks fn b seen = (r : ℕ) → r < 256 → not (get_or seen r false) ≡ unseen fn b r
 
 abbrev pub invariant-loop-b : goal.invariant-loop-b
-invariant-loop-b l = (length l.seen ≡ 256) × (all (ranked l.fun) l.b ≡ true) × Marks l.fun l.b l.seen
+invariant-loop-b l = (length l.seen ≡ 256) × (all (ranked l.fun.words.now) l.b ≡ true) × Marks l.fun.words.now l.b l.seen

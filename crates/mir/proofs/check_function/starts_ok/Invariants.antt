@@ -13,4 +13,4 @@ abbrev pub placed : List ℕ → ℕ → Bool
 placed fn b = ltb (start fn b) (stop fn b) && ltb (start fn b) (nitems fn)
 
 abbrev pub invariant-loop-b : goal.invariant-loop-b
-invariant-loop-b l = all (placed l.fun) l.b ≡ true
+invariant-loop-b l = all (placed l.fun.words.now) l.b ≡ true

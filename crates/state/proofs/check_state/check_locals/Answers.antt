@@ -11,11 +11,11 @@ use Rattle.state.proofs.check_state.check_locals.Goals as goal
 
 pub check_node-requires-clause-t_bound : goal.check_node-requires-clause-t_bound
 check_node-requires-clause-t_bound c =
-    (locals_typed c.args.types.now c.args.locals.now c.requires.locals_value).below c.loop-t.t-index (omega arith)
+    (locals_typed c.args.types.now.words.now c.args.locals.now c.requires.locals_value).below c.loop-t.t-index (omega arith)
 
 -- before `returns`: a check that goes deeper than 64 levels is refused here first, at what it would wrongly find
 pub loop-t-preserved : goal.loop-t-preserved
-loop-t-preserved c = passed_more c.loop-t.invariant (omega arith) (ready_typed c.requires.ready).known c.in-Some.ensures
+loop-t-preserved c = passed_more c.loop-t.invariant (omega arith) (ready_typed c.args.types.now.ready).known c.in-Some.ensures
 
 pub returns-in_default : goal.returns-in_default
 returns-in_default c =

@@ -5,4 +5,4 @@ use Rattle.state.proofs.Finding.{Passed}
 use Rattle.state.proofs.check_state.check_locals.Given as goal
 
 abbrev pub invariant-loop-t : goal.invariant-loop-t
-invariant-loop-t l = Passed l.types l.forms l.whats l.n levels l.locals l.t-index l.i
+invariant-loop-t l = Passed l.types.words.now l.forms l.whats l.n levels l.locals l.t-index l.i

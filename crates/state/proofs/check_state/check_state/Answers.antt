@@ -52,11 +52,11 @@ pub returns-then-n-gt512 : goal.returns-then-n-gt512
 returns-then-n-gt512 c =
     let a = c.args in
     elim c.then-n-gt512.branch [
-      | then-n-gt512-via-then-n-gt512 w ↦ misshapen a.types.now a.locals.now (value a.s) (λ h. omega (arith, h.few))
+      | then-n-gt512-via-then-n-gt512 w ↦ misshapen a.types.now.words.now a.locals.now (value a.s) (λ h. omega (arith, h.few))
       | then-n-gt512-via-else-n-gt512+then-not-zeros_from w ↦
-          misshapen a.types.now a.locals.now (value a.s) (λ h. true≢false (sym h.forms_zero ∙ sym w.zeros_from.ensures ∙ w.if-not-zeros_from.true))
+          misshapen a.types.now.words.now a.locals.now (value a.s) (λ h. true≢false (sym h.forms_zero ∙ sym w.zeros_from.ensures ∙ w.if-not-zeros_from.true))
       | then-n-gt512-via-else-n-gt512+else-not-zeros_from+then-not-zeros_from-2 w ↦
-          misshapen a.types.now a.locals.now (value a.s) (λ h. true≢false (sym h.whats_zero ∙ sym w.zeros_from-else-not-zeros_from.ensures ∙ w.if-not-zeros_from-2.true))
+          misshapen a.types.now.words.now a.locals.now (value a.s) (λ h. true≢false (sym h.whats_zero ∙ sym w.zeros_from-else-not-zeros_from.ensures ∙ w.if-not-zeros_from-2.true))
     ]
 
 pub returns : goal.returns
@@ -66,7 +66,7 @@ returns c =
     let r = c.check_locals.ensures in
     let lf : length a.s.forms ≡ 512 = search rules in
     let lw : length a.s.whats ≡ 512 = search rules in
-    decided a.types.now a.locals.now (value a.s) (ready_typed p.ready).known (record {
+    decided a.types.now.words.now a.locals.now (value a.s) (ready_typed c.args.types.now.ready).known (record {
       few = c.if-n-gt512.false;
       forms_long = lf;
       whats_long = lw;

@@ -35,7 +35,7 @@ fields_end-overflow_add-e t c =
 pub fields_end-overflow_add-j : goal.fields_end-overflow_add-j
 fields_end-overflow_add-j t c =
     let p = c.requires in
-    let T = ready_typed p.ready in
+    let T = ready_typed c.args.types.now.ready in
     omega (arith, parts_inside T c.args.u p.fields.known, T.few_parts, p.fields.inside, c.loop-k-test.true)
 
 pub fields_end-node_end-e-requires : goal.fields_end-node_end-e-requires
@@ -44,7 +44,7 @@ fields_end-node_end-e-requires t c =
     let L = c.loop-k in
     let e = c.part_at-t.ensures in
     let S = passed_split (L.invariant.1 p.heres.trees p.heres.coded) c.loop-k-test.true in
-    (omega (arith, L.invariant.0, c.decreases), (p.ready, (rw e (p.fields.types _ c.loop-k-test.true), record { tree = S.head; coded = rw e S.here })))
+    (omega (arith, L.invariant.0, c.decreases), (rw e (p.fields.types _ c.loop-k-test.true), record { tree = S.head; coded = rw e S.here }))
 
 pub fields_end-loop-k-preserved : goal.fields_end-loop-k-preserved
 fields_end-loop-k-preserved t c =
@@ -56,7 +56,7 @@ fields_end-loop-k-preserved t c =
         omega (arith, L.invariant.0, w.e-is),
         λ xs h.
             let P = L.invariant.1 xs h in
-            passed_more P l (w.e-is ∙ passed_folded P (ready_typed p.ready).known l w.if-forms-e-eq0.true),
+            passed_more P l (w.e-is ∙ passed_folded P (ready_typed c.args.types.now.ready).known l w.if-forms-e-eq0.true),
       )
       | fields_end-else-forms-e-eq0 w ↦
           let Q = L.invariant.1 p.heres.trees p.heres.coded in
@@ -89,18 +89,20 @@ node_end-owner_of-u-requires-clause-variant_of t c =
     let O = coded_opened c.requires.here.coded c.if-forms-i-eq0.false in
     λ e. rw c.from.ensures (O.openable.ranged e)
 
-pub node_end-count_of-requires-clause-t_bound : goal.node_end-count_of-requires-clause-t_bound
-node_end-count_of-requires-clause-t_bound t c =
-    let p = c.requires in
-    let O = coded_opened p.here.coded c.if-forms-i-eq0.false in
-    rw (c.owner_of-u.ensures, c.from.ensures) (owner_known (ready_typed p.ready) c.args.t _ p.t_bound O.openable)
+pub node_end-count_of-requires : goal.node_end-count_of-requires
+node_end-count_of-requires t c =
+    record {
+      t_bound = let p = c.requires in
+          let O = coded_opened p.here.coded c.if-forms-i-eq0.false in
+          rw (c.owner_of-u.ensures, c.from.ensures) (owner_known (ready_typed c.args.types.now.ready) c.args.t _ p.t_bound O.openable);
+    }
 
 pub node_end-overflow_sub-n : goal.node_end-overflow_sub-n
 node_end-overflow_sub-n t c =
     let p = c.requires in
     let O = coded_opened p.here.coded c.if-forms-i-eq0.false in
     rw (c.count_of.ensures, c.first_of-j.ensures, c.owner_of-u.ensures, c.from.ensures)
-    (first_fits (ready_typed p.ready) c.args.t _ p.t_bound O.openable)
+    (first_fits (ready_typed c.args.types.now.ready) c.args.t _ p.t_bound O.openable)
 
 pub node_end-fields_end-requires : goal.node_end-fields_end-requires
 unfolding kids
@@ -112,13 +114,13 @@ node_end-fields_end-requires t c =
     let j = c.first_of-j.ensures in
     let n = c.count_of.ensures in (
       omega (arith, node_in p.here, c.decreases),
-      (p.ready, (rw (n, j, u, w) (fields_open (ready_typed p.ready) p.t_bound O.openable), record { trees = O.children; coded = rw (n, j, u, w) O.below })),
+      (rw (n, j, u, w) (fields_open (ready_typed c.args.types.now.ready) p.t_bound O.openable), record { trees = O.children; coded = rw (n, j, u, w) O.below }),
     )
 
 pub node_end-returns-then-forms-i-eq0 : goal.node_end-returns-then-forms-i-eq0
 unfolding size
 node_end-returns-then-forms-i-eq0 t c =
-    λ x h. omega (arith, ap size (coded_folded (ready_typed c.requires.ready).known h c.if-forms-i-eq0.true))
+    λ x h. omega (arith, ap size (coded_folded (ready_typed c.args.types.now.ready).known h c.if-forms-i-eq0.true))
 
 pub node_end-returns-else-forms-i-eq0 : goal.node_end-returns-else-forms-i-eq0
 unfolding kids

@@ -15,4 +15,4 @@ decreases-node_end l = 2 * (length l.forms.now - l.i)
 
 abbrev pub invariant-fields_end-loop-k : goal.invariant-fields_end-loop-k
 invariant-fields_end-loop-k l =
-    (l.i ≤ l.e) × ((xs : Forest) → CodedAll l.types l.forms l.whats l.i (parts l.types l.u l.j l.n) xs → Passed l.types l.forms l.whats l.i l.u l.j l.n xs l.e l.k)
+    (l.i ≤ l.e) × ((xs : Forest) → CodedAll l.types.words.now l.forms l.whats l.i (parts l.types.words.now l.u l.j l.n) xs → Passed l.types.words.now l.forms l.whats l.i l.u l.j l.n xs l.e l.k)

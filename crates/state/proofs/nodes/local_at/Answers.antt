@@ -32,7 +32,7 @@ node_end-i-requires-clause-t_bound c =
     let k = c.loop-t.t-index in
     let l = c.loop-t-test.true in
     let m = c.requires.l_in_bounds in
-    rw (word a.locals.now a.l m k l) ((locals_typed a.types.now a.locals.now c.requires.locals_value).below k (among a.locals.now a.l m k l))
+    rw (word a.locals.now a.l m k l) ((locals_typed a.types.now.words.now a.locals.now c.requires.locals_value).below k (among a.locals.now a.l m k l))
 
 pub node_end-i-requires-clause-here : goal.node_end-i-requires-clause-here
 node_end-i-requires-clause-here c =

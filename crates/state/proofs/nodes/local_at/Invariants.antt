@@ -7,4 +7,4 @@ use Rattle.records.specs.Here.{CodedAll}
 use Rattle.state.proofs.nodes.local_at.Given as goal
 
 abbrev pub invariant-loop-t : goal.invariant-loop-t
-invariant-loop-t l = (E : Forest) → CodedAll l.types l.forms l.whats 0 l.fn.locals E → l.i ≡ sizes (firsts l.t-index E)
+invariant-loop-t l = (E : Forest) → CodedAll l.types.words.now l.forms l.whats 0 l.fn.locals E → l.i ≡ sizes (firsts l.t-index E)

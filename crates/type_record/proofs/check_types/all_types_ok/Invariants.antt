@@ -6,4 +6,4 @@ use Rattle.model.specs.Types.{type_ok}
 use Rattle.type_record.proofs.check_types.all_types_ok.Given as goal
 
 abbrev pub invariant-loop-t : goal.invariant-loop-t
-invariant-loop-t l = all (type_ok l.types) l.t ≡ true
+invariant-loop-t l = all (type_ok l.types.words.now) l.t ≡ true

@@ -38,8 +38,8 @@ returns-then-not-type_sizes-clause-answer c = no_sizes _ c.type_sizes.ensures (a
 pub fill_offsets-requires-clause-sized : goal.fill_offsets-requires-clause-sized
 fill_offsets-requires-clause-sized c = sized _ c.type_sizes.ensures (ap not c.if-not-type_sizes.false)
 
-pub all_types_ok-requires-clause-counted : goal.all_types_ok-requires-clause-counted
-all_types_ok-requires-clause-counted c =
+pub invariant_of-all_types_ok-clause-counted : goal.invariant_of-all_types_ok-clause-counted
+invariant_of-all_types_ok-clause-counted c =
     counted _ c.type_sizes.ensures (ap not c.if-not-type_sizes.false) c.fill_offsets.ensures.counts c.if-fill_offsets.true
 
 pub returns-then-fill_offsets-clause-answer : goal.returns-then-fill_offsets-clause-answer

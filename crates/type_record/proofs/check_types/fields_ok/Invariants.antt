@@ -12,4 +12,4 @@ abbrev pub Pass : List ℕ → ℕ → ℕ → ℕ → Type 0
 Pass Γ t k j = all (λ i. field_ok Γ t (k + i)) (j - k) ≡ true
 
 abbrev pub invariant-loop-j : goal.invariant-loop-j
-invariant-loop-j l = Pass l.types l.t l.first l.j
+invariant-loop-j l = Pass l.types.words.now l.t l.first l.j

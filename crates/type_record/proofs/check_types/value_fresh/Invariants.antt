@@ -13,4 +13,4 @@ abbrev pub differs : List ℕ → ℕ → ℕ → ℕ → Bool
 differs Γ t j i = not (eqb (discriminant Γ t i) (discriminant Γ t j))
 
 abbrev pub invariant-loop-i : goal.invariant-loop-i
-invariant-loop-i l = all (differs l.types l.t l.j) l.i ≡ true
+invariant-loop-i l = all (differs l.types.words.now l.t l.j) l.i ≡ true

@@ -6,4 +6,4 @@ use Rattle.model.specs.Types.{variant_ok}
 use Rattle.type_record.proofs.check_types.variants_ok.Given as goal
 
 abbrev pub invariant-loop-j : goal.invariant-loop-j
-invariant-loop-j l = all (variant_ok l.types l.t) l.j ≡ true
+invariant-loop-j l = all (variant_ok l.types.words.now l.t) l.j ≡ true

@@ -29,7 +29,7 @@ use Rattle.visit.proofs.block.+basic_block_goto_terminator.Goals.{terminator-In-
 
 pub basic_block-pass_items-requires-clause-within : goal.basic_block-pass_items-requires-clause-within
 basic_block-pass_items-requires-clause-within t c =
-    let A = formed_accepted c.requires.accepted.formed in
+    let A = formed_accepted c.args.fun.now.accepted.formed in
     record {
       order = omega (arith, c.start_of-from.ensures, c.stop_of-end.ensures, A.starts _ c.requires.come.known);
       inside = omega (arith, c.stop_of-end.ensures, stop_inside A c.args.w.block);
@@ -43,20 +43,22 @@ basic_block-returns-in_err-q t c =
 
 pub basic_block-overflow_sub-end : goal.basic_block-overflow_sub-end
 basic_block-overflow_sub-end t c =
-    omega (arith, c.stop_of-end.ensures, (formed_accepted c.requires.accepted.formed).starts _ c.requires.come.known)
+    omega (arith, c.stop_of-end.ensures, (formed_accepted c.args.fun.now.accepted.formed).starts _ c.requires.come.known)
 
-pub basic_block-op_of-requires-clause-i_bound : goal.basic_block-op_of-requires-clause-i_bound
-basic_block-op_of-requires-clause-i_bound t c =
-    let A = formed_accepted c.requires.accepted.formed in
-    omega (arith, c.stop_of-end.ensures, A.starts _ c.requires.come.known, stop_inside A c.args.w.block)
+pub basic_block-op_of-requires : goal.basic_block-op_of-requires
+basic_block-op_of-requires t c =
+    record {
+      i_bound = let A = formed_accepted c.args.fun.now.accepted.formed in
+          omega (arith, c.stop_of-end.ensures, A.starts _ c.requires.come.known, stop_inside A c.args.w.block);
+    }
 
 pub basic_block-overflow_sub-end-then-op_of-eq-RETURN : goal.basic_block-overflow_sub-end-then-op_of-eq-RETURN
 basic_block-overflow_sub-end-then-op_of-eq-RETURN t c =
-    omega (arith, c.stop_of-end.ensures, (formed_accepted c.requires.accepted.formed).starts _ c.requires.come.known)
+    omega (arith, c.stop_of-end.ensures, (formed_accepted c.args.fun.now.accepted.formed).starts _ c.requires.come.known)
 
 pub basic_block-returned-requires-clause-i_bound : goal.basic_block-returned-requires-clause-i_bound
 basic_block-returned-requires-clause-i_bound t c =
-    let A = formed_accepted c.requires.accepted.formed in
+    let A = formed_accepted c.args.fun.now.accepted.formed in
     omega (arith, c.stop_of-end.ensures, A.starts _ c.requires.come.known, stop_inside A c.args.w.block)
 
 pub basic_block-returned-requires-clause-stated : goal.basic_block-returned-requires-clause-stated
@@ -77,8 +79,8 @@ basic_block-returns-then-op_of-eq-RETURN t c = λ m E R N H.
     let p = c.requires in
     let e = c.stop_of-end.ensures in
     let (w, u, G, T) = passes_gone (passes_block E a.w.block c.start_of-from.ensures e (c.in_ok-q.ensures E H)) in
-    enter_over a.w.left p.come.known E m (formed_accepted p.accepted.formed) u T (ap (λ (i : ℕ). i - 1) e)
-    (returns_is _ _ (ap (λ (i : ℕ). op a.fun.now (i - 1)) (sym e) ∙ sym c.op_of.ensures ∙ c.if-op_of-eq-RETURN.true)) R N (c.returned.ensures w.0 G)
+    enter_over a.w.left p.come.known E m (formed_accepted c.args.fun.now.accepted.formed) u T (ap (λ (i : ℕ). i - 1) e)
+    (returns_is _ _ (ap (λ (i : ℕ). op a.fun.now.record.words.now (i - 1)) (sym e) ∙ sym c.op_of.ensures ∙ c.if-op_of-eq-RETURN.true)) R N (c.returned.ensures w.0 G)
 
 pub basic_block-terminator-requires : goal.basic_block-terminator-requires
 basic_block-terminator-requires t c =
@@ -89,24 +91,21 @@ basic_block-terminator-requires t c =
     let (w, u, G, T) = passes_gone (passes_block o.state a.w.block c.start_of-from.ensures c.stop_of-end.ensures (c.in_ok-q.ensures o.state o.holds)) in
     let S = spoken_told o.spoken T in
     let m = telling r w.1 o.memory in
-    let e = enters_departs a.types.now a.fun.now r a.w.left a.w.block p.come.known o.state o.memory u
-    (returns_not _ _ (λ d. c.if-op_of-eq-RETURN.false (c.op_of.ensures ∙ ap (λ (i : ℕ). op a.fun.now (i - 1)) c.stop_of-end.ensures ∙ d))) in (
+    let e = enters_departs a.fun.now.types.words.now a.fun.now.record.words.now r a.w.left a.w.block p.come.known o.state o.memory u
+    (returns_not _ _ (λ d. c.if-op_of-eq-RETURN.false (c.op_of.ensures ∙ ap (λ (i : ℕ). op a.fun.now.record.words.now (i - 1)) c.stop_of-end.ensures ∙ d))) in (
       omega (arith, c.decreases),
       (
-        p.accepted,
+        p.shared,
         (
-          p.shared,
-          (
-            record {
-              memory = m;
-              is = told_remembers r w.1 o.is;
-              spoken = spoken_own S;
-              state = w.0;
-              holds = G;
-              goes = λ d. o.goes (e ∙ subst (λ (b : Bool). departs a.types.now a.fun.now b a.w.left a.w.block w.0 m ≡ refused 0) S.pen d);
-            },
-            p.come,
-          ),
+          record {
+            memory = m;
+            is = told_remembers r w.1 o.is;
+            spoken = spoken_own S;
+            state = w.0;
+            holds = G;
+            goes = λ d. o.goes (e ∙ subst (λ (b : Bool). departs a.fun.now.types.words.now a.fun.now.record.words.now b a.w.left a.w.block w.0 m ≡ refused 0) S.pen d);
+          },
+          p.come,
         ),
       ),
     )
@@ -118,9 +117,9 @@ basic_block-returns t c = λ m E R N H.
     let r = a.o.recording in
     let (w, u, G, T) = passes_gone (passes_block E a.w.block c.start_of-from.ensures c.stop_of-end.ensures (c.in_ok-q.ensures E H)) in
     let S = spoken_told N T in
-    enter_leave a.w.left p.come.known E m (formed_accepted p.accepted.formed) u T
-    (returns_not _ _ (λ d. c.if-op_of-eq-RETURN.false (c.op_of.ensures ∙ ap (λ (i : ℕ). op a.fun.now (i - 1)) c.stop_of-end.ensures ∙ d)))
-    (visits_pen (λ b. departs a.types.now a.fun.now b a.w.left a.w.block w.0 (telling r w.1 m)) S.pen
+    enter_leave a.w.left p.come.known E m (formed_accepted c.args.fun.now.accepted.formed) u T
+    (returns_not _ _ (λ d. c.if-op_of-eq-RETURN.false (c.op_of.ensures ∙ ap (λ (i : ℕ). op a.fun.now.record.words.now (i - 1)) c.stop_of-end.ensures ∙ d)))
+    (visits_pen (λ b. departs a.fun.now.types.words.now a.fun.now.record.words.now b a.w.left a.w.block w.0 (telling r w.1 m)) S.pen
     (c.terminator.ensures (telling r w.1 m) w.0 (told_remembers r w.1 R) (spoken_own S) G))
 
 -- A JUMP
@@ -131,7 +130,7 @@ goto-meet-requires-clause-ongoing t c =
     let p = c.requires in
     let O = p.ongoing in
     let J = share_joins _ _ (λ z. c.if-points-c-ne0.true (p.shared.numbers _ p.leaps.known ∙ z)) in
-    ongoing_as O (jumps_meet a.types.now a.fun.now a.o.recording a.j.left (exit a.fun.now a.j.entry a.j.item a.j.block O.state) O.memory J)
+    ongoing_as O (jumps_meet a.fun.now.types.words.now a.fun.now.record.words.now a.o.recording a.j.left (exit a.fun.now.record.words.now a.j.entry a.j.item a.j.block O.state) O.memory J)
 
 pub goto-meet-requires-clause-block_value : goal.goto-meet-requires-clause-block_value
 goto-meet-requires-clause-block_value t c =
@@ -143,14 +142,14 @@ goto-returns-then-points-c-ne0 t c = λ m E R N H.
     let a = c.args in
     let p = c.requires in
     let J = share_joins _ _ (λ z. c.if-points-c-ne0.true (p.shared.numbers _ p.leaps.known ∙ z)) in
-    rw (jumps_meet a.types.now a.fun.now a.o.recording a.j.left (exit a.fun.now a.j.entry a.j.item a.j.block E) m J)
+    rw (jumps_meet a.fun.now.types.words.now a.fun.now.record.words.now a.o.recording a.j.left (exit a.fun.now.record.words.now a.j.entry a.j.item a.j.block E) m J)
     (c.meet.ensures m E R N H)
 
 pub goto-overflow_sub-w : goal.goto-overflow_sub-w
 goto-overflow_sub-w t c =
     let p = c.requires in
     let J = none_joins _ _ (sym (p.shared.numbers _ p.leaps.known) ∙ c.if-points-c-ne0.false) in
-    omega (arith, (leaps_come (formed_accepted p.accepted.formed) p.leaps J).0)
+    omega (arith, (leaps_come (formed_accepted c.args.fun.now.accepted.formed) p.leaps J).0)
 
 pub goto-basic_block-requires : goal.goto-basic_block-requires
 goto-basic_block-requires t c =
@@ -158,18 +157,15 @@ goto-basic_block-requires t c =
     let p = c.requires in
     let O = p.ongoing in
     let J = none_joins _ _ (sym (p.shared.numbers _ p.leaps.known) ∙ c.if-points-c-ne0.false) in
-    let (l, C) = leaps_come (formed_accepted p.accepted.formed) p.leaps J in
+    let (l, C) = leaps_come (formed_accepted c.args.fun.now.accepted.formed) p.leaps J in
     let e : a.j.left ≡ suc (a.j.left - 1) = omega (arith, l) in (
       omega (arith, l, c.decreases),
       (
-        p.accepted,
+        p.shared,
         (
-          p.shared,
-          (
-            ongoing_as O (jumps_enter a.types.now a.fun.now a.o.recording a.j.left (exit a.fun.now a.j.entry a.j.item a.j.block O.state) O.memory J
-                ∙ ap (λ (n : ℕ). Memory.enters a.types.now a.fun.now a.o.recording n a.j.block O.state O.memory) e),
-            C,
-          ),
+          ongoing_as O (jumps_enter a.fun.now.types.words.now a.fun.now.record.words.now a.o.recording a.j.left (exit a.fun.now.record.words.now a.j.entry a.j.item a.j.block O.state) O.memory J
+              ∙ ap (λ (n : ℕ). Memory.enters a.fun.now.types.words.now a.fun.now.record.words.now a.o.recording n a.j.block O.state O.memory) e),
+          C,
         ),
       ),
     )
@@ -179,8 +175,8 @@ goto-returns t c = λ m E R N H.
     let a = c.args in
     let p = c.requires in
     let J = none_joins _ _ (sym (p.shared.numbers _ p.leaps.known) ∙ c.if-points-c-ne0.false) in
-    let z : suc (a.j.left - 1) ≡ a.j.left = omega (arith, (leaps_come (formed_accepted p.accepted.formed) p.leaps J).0) in
-    rw (jumps_enter a.types.now a.fun.now a.o.recording a.j.left (exit a.fun.now a.j.entry a.j.item a.j.block E) m J)
+    let z : suc (a.j.left - 1) ≡ a.j.left = omega (arith, (leaps_come (formed_accepted c.args.fun.now.accepted.formed) p.leaps J).0) in
+    rw (jumps_enter a.fun.now.types.words.now a.fun.now.record.words.now a.o.recording a.j.left (exit a.fun.now.record.words.now a.j.entry a.j.item a.j.block E) m J)
     (rw z at (c.basic_block.ensures m E R N H))
 
 -- A BLOCK THAT IS LEFT
@@ -206,32 +202,31 @@ terminator-loop-i-init t c =
     )
 
 -- the item at hand
-at_hand : {t : ℕ} (c : terminator-In-loop-i t) → InBlock c.args.fun.now c.args.w.block c.loop-i.i
+at_hand : {t : ℕ} (c : terminator-In-loop-i t) → InBlock c.args.fun.now.record.words.now c.args.w.block c.loop-i.i
 at_hand c = item_holds c.requires.come.known (omega (arith, c.start_of-i.ensures)) c.loop-i-test.true c.stop_of-i-end.ensures
 
-pub terminator-op_of-requires-clause-i_bound : goal.terminator-op_of-requires-clause-i_bound
-terminator-op_of-requires-clause-i_bound t c =
-    omega (arith, c.loop-i-test.true, c.stop_of-i-end.ensures, stop_inside (formed_accepted c.requires.accepted.formed) c.args.w.block)
+pub terminator-op_of-requires : goal.terminator-op_of-requires
+terminator-op_of-requires t c =
+    record { i_bound = omega (arith, c.loop-i-test.true, c.stop_of-i-end.ensures, stop_inside (formed_accepted c.args.fun.now.accepted.formed) c.args.w.block) }
 
 pub terminator-target_state-u-requires : goal.terminator-target_state-u-requires
 terminator-target_state-u-requires t c =
     let p = c.requires in
-    let A = formed_accepted p.accepted.formed in
+    let A = formed_accepted c.args.fun.now.accepted.formed in
     let h = p.ongoing in
     let b = at_hand (goal.at.terminator-target_state-u-requires t c).In-loop-i in
     let d = sym c.op_of.ensures ∙ c.if-op_of-eq-TARGET.true in
     let N = left_next (c.loop-i.invariant.0.left h.memory h.state h.is h.spoken h.holds) b.high d in
     let P = c.in_ok-p.ensures _ h.holds in
     record {
-      accepted = p.accepted;
       i_bound = omega (arith, b.high, stop_inside A c.args.w.block);
       stated = stated h;
       leaves = record { state = h.state; holds = h.holds; sound = P.sound _ refl; behind = target_behind A p.come.known b d P; left = N.state; leaves = N.by };
     }
 
-pub terminator-arg_of-requires-clause-i_bound : goal.terminator-arg_of-requires-clause-i_bound
-terminator-arg_of-requires-clause-i_bound t c =
-    omega (arith, c.loop-i-test.true, c.stop_of-i-end.ensures, stop_inside (formed_accepted c.requires.accepted.formed) c.args.w.block)
+pub terminator-arg_of-requires : goal.terminator-arg_of-requires
+terminator-arg_of-requires t c =
+    record { i_bound = omega (arith, c.loop-i-test.true, c.stop_of-i-end.ensures, stop_inside (formed_accepted c.args.fun.now.accepted.formed) c.args.w.block) }
 
 pub terminator-goto-requires : goal.terminator-goto-requires
 terminator-goto-requires t c =
@@ -244,20 +239,17 @@ terminator-goto-requires t c =
     let N = left_next L b.high d in (
       omega (arith, c.decreases),
       (
-        p.accepted,
+        p.shared,
         (
-          p.shared,
-          (
-            record {
-              memory = L.memory;
-              is = L.is;
-              spoken = spoken_own L.spoken;
-              state = N.state;
-              holds = c.target_state-u.ensures h.state h.holds N.state N.by;
-              goes = λ k. h.goes (aimed_refused N L.spoken.pen aim k);
-            },
-            rw aim (come_leaps (formed_accepted p.accepted.formed) p.come b d),
-          ),
+          record {
+            memory = L.memory;
+            is = L.is;
+            spoken = spoken_own L.spoken;
+            state = N.state;
+            holds = c.target_state-u.ensures h.state h.holds N.state N.by;
+            goes = λ k. h.goes (aimed_refused N L.spoken.pen aim k);
+          },
+          rw aim (come_leaps (formed_accepted c.args.fun.now.accepted.formed) p.come b d),
         ),
       ),
     )

@@ -22,6 +22,6 @@ decreases-terminator l = 3 * l.w.left + 1
 -- the way left, from whatever memory the arrays and the buffer had
 abbrev pub invariant-terminator-loop-i : goal.invariant-terminator-loop-i
 invariant-terminator-loop-i l =
-    Onward l.types l.fun l.initial.q.recording l.w.left l.w.block l.s l.p
+    Onward l.fun.types.words.now l.fun.record.words.now l.initial.q.recording l.w.left l.w.block l.s l.p
     (arrays_in l.initial.memo l.initial.waits l.initial.forms l.initial.whats) l.initial.out l.initial.q (arrays_in l.memo l.waits l.forms l.whats) l.out l.q l.i
     × (length l.memo ≡ length l.initial.memo)

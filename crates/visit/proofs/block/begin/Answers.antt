@@ -21,9 +21,8 @@ meet-requires c =
     let O = p.ongoing in
     let J = share_joins _ _ (λ z. c.if-points-ne0.true (p.shared.numbers 0 p.beginning.1 ∙ z)) in
     record {
-      accepted = p.accepted;
       shared = p.shared;
-      ongoing = ongoing_as O (jumps_meet a.types.now a.fun.now a.o.recording (nblocks a.fun.now) (exit a.fun.now true 0 0 O.state) O.memory J);
+      ongoing = ongoing_as O (jumps_meet a.fun.now.types.words.now a.fun.now.record.words.now a.o.recording (nblocks a.fun.now.record.words.now) (exit a.fun.now.record.words.now true 0 0 O.state) O.memory J);
       jump_in = p.beginning;
       block_value = J;
     }
@@ -33,7 +32,7 @@ returns-then-points-ne0 c = λ m E R N H.
     let a = c.args in
     let p = c.requires in
     let J = share_joins _ _ (λ z. c.if-points-ne0.true (p.shared.numbers 0 p.beginning.1 ∙ z)) in
-    rw (jumps_meet a.types.now a.fun.now a.o.recording (nblocks a.fun.now) (exit a.fun.now true 0 0 E) m J)
+    rw (jumps_meet a.fun.now.types.words.now a.fun.now.record.words.now a.o.recording (nblocks a.fun.now.record.words.now) (exit a.fun.now.record.words.now true 0 0 E) m J)
     (c.meet.ensures m E R N H)
 
 pub basic_block-requires : goal.basic_block-requires
@@ -42,13 +41,12 @@ basic_block-requires c =
     let p = c.requires in
     let O = p.ongoing in
     let J = none_joins _ _ (sym (p.shared.numbers 0 p.beginning.1) ∙ c.if-points-ne0.false) in
-    let z : nblocks a.fun.now ≡ suc (c.nblocks-n.result - 1) = omega (arith, c.nblocks-n.ensures, p.beginning.1) in
+    let z : nblocks a.fun.now.record.words.now ≡ suc (c.nblocks-n.result - 1) = omega (arith, c.nblocks-n.ensures, p.beginning.1) in
     record {
-      accepted = p.accepted;
       shared = p.shared;
-      ongoing = ongoing_as O (jumps_enter a.types.now a.fun.now a.o.recording (nblocks a.fun.now) (exit a.fun.now true 0 0 O.state) O.memory J
-          ∙ ap (λ (n : ℕ). Memory.enters a.types.now a.fun.now a.o.recording n 0 O.state O.memory) z);
-      come = rw c.nblocks-n.ensures (root_come (formed_accepted p.accepted.formed) root_start);
+      ongoing = ongoing_as O (jumps_enter a.fun.now.types.words.now a.fun.now.record.words.now a.o.recording (nblocks a.fun.now.record.words.now) (exit a.fun.now.record.words.now true 0 0 O.state) O.memory J
+          ∙ ap (λ (n : ℕ). Memory.enters a.fun.now.types.words.now a.fun.now.record.words.now a.o.recording n 0 O.state O.memory) z);
+      come = rw c.nblocks-n.ensures (root_come (formed_accepted c.args.fun.now.accepted.formed) root_start);
     }
 
 pub returns : goal.returns
@@ -56,6 +54,6 @@ returns c = λ m E R N H.
     let a = c.args in
     let p = c.requires in
     let J = none_joins _ _ (sym (p.shared.numbers 0 p.beginning.1) ∙ c.if-points-ne0.false) in
-    let z : suc (c.nblocks-n.result - 1) ≡ nblocks a.fun.now = omega (arith, c.nblocks-n.ensures, p.beginning.1) in
-    rw (jumps_enter a.types.now a.fun.now a.o.recording (nblocks a.fun.now) (exit a.fun.now true 0 0 E) m J)
+    let z : suc (c.nblocks-n.result - 1) ≡ nblocks a.fun.now.record.words.now = omega (arith, c.nblocks-n.ensures, p.beginning.1) in
+    rw (jumps_enter a.fun.now.types.words.now a.fun.now.record.words.now a.o.recording (nblocks a.fun.now.record.words.now) (exit a.fun.now.record.words.now true 0 0 E) m J)
     (rw z at (c.basic_block.ensures m E R N H))

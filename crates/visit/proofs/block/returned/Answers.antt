@@ -23,12 +23,11 @@ collect_folds_at_ret-requires c =
     let a = c.args in
     let p = c.requires in
     let l = c.local_types.ensures in
-    let A = formed_accepted p.accepted.formed in
+    let A = formed_accepted c.args.fun.now.accepted.formed in
     let few : c.nargs.result < length c.local_types.result.now = omega (arith, A.few_args, c.nargs.ensures, ap length l, length_local_types A) in
-    let held : Held a.types.now c.local_types.result.now a.s.now = (p.stated.state, rw l p.stated.holds) in
+    let held : Held a.fun.now.types.words.now c.local_types.result.now a.s.now = (p.stated.state, rw l p.stated.holds) in
     record {
-      ready = p.accepted.ready;
-      locals_value = rw l (accepted_locals p.accepted);
+      locals_value = rw l (accepted_locals c.args.fun.now.accepted);
       a_in_bounds = few;
       held_in = (a.s.now.nodes, held);
       counted = rw c.at_point.ensures (counted_alike (alike_at _ _) p.counted);
@@ -40,9 +39,9 @@ returns-then-o c = λ E H.
     let p = c.requires in
     let P = c.collect_folds_at_ret.ensures a.s.now.nodes E (rw c.local_types.ensures H) in
     let new = c.collect_folds_at_ret.new.out in
-    let Q = subst₂ (λ (k : ℕ) (v : Out). Puts (length (folds_at_ret a.types.now k E)) a.out.now v new c.collect_folds_at_ret.result (lines_of (point_of v) (root 0) (folds_at_ret a.types.now k E)))
+    let Q = subst₂ (λ (k : ℕ) (v : Out). Puts (length (folds_at_ret a.fun.now.types.words.now k E)) a.out.now v new c.collect_folds_at_ret.result (lines_of (point_of v) (root 0) (folds_at_ret a.fun.now.types.words.now k E)))
     c.nargs.ensures c.at_point.ensures P in
-    puts_tells a.i (folds_at_ret a.types.now (nargs a.fun.now) E) (folds_at_ret_dashed a.types.now (nargs a.fun.now) E) c.if-o.true (c.point_of.ensures a.fun.now p.accepted.formed.laid.most_items p.i_bound)
+    puts_tells a.i (folds_at_ret a.fun.now.types.words.now (nargs a.fun.now.record.words.now) E) (folds_at_ret_dashed a.fun.now.types.words.now (nargs a.fun.now.record.words.now) E) c.if-o.true (c.point_of.ensures a.fun.now.record.words.now c.args.fun.now.accepted.formed.laid.most_items p.i_bound)
     (puts_alike (alike_at _ _) Q)
 
 pub returns : goal.returns

@@ -58,7 +58,7 @@ returns-in_err-fresh c =
 pub loop-at-preserved : goal.loop-at-preserved
 loop-at-preserved c =
     turn_more c.loop-at.invariant (before c.requires.short c.requires.range.0 c.loop-at.invariant (omega arith) c.if-op-eq-INDEX.false)
-    (ready_typed c.requires.ready) (sym c.in_ok-fresh.ensures)
+    (ready_typed c.args.types.now.ready) (sym c.in_ok-fresh.ensures)
 
 pub returns : goal.returns
 returns c =

@@ -4,4 +4,4 @@ use Rattle.walk.proofs.Turns.{Turn}
 use Rattle.walk.proofs.along.pass_folded.Given as goal
 
 abbrev pub invariant-loop-at : goal.invariant-loop-at
-invariant-loop-at l = Turn l.types l.ops l.args l.from (extent l.ops l.args) l.typ l.fresh l.at
+invariant-loop-at l = Turn l.types.words.now l.ops l.args l.from (extent l.ops l.args) l.typ l.fresh l.at

@@ -82,7 +82,7 @@ returns-then-op-eq-INDEX c =
           turn_done T c.loop-at.at refl (λ x h l.
           absurd (omega (arith, stopped_here (extent_stopped c.args.ops.now c.args.args.now c.requires.short.is) T.least T.most w.if-op-eq-INDEX.true)))
       | then-op-eq-INDEX-via-else-op-eq-INDEX+then-forms-here-eq0 w ↦
-          turn_done T c.loop-at.at refl (λ x h l. coded_folded (ready_typed c.requires.ready).known (T.midway x h).here w.if-forms-here-eq0.true)
+          turn_done T c.loop-at.at refl (λ x h l. coded_folded (ready_typed c.args.types.now.ready).known (T.midway x h).here w.if-forms-here-eq0.true)
     ]
 
 pub bounds-args-at : goal.bounds-args-at

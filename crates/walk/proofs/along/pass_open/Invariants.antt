@@ -13,4 +13,4 @@ pub record Turn (Γ fs ws ops args : List ℕ) (node typ at i t : ℕ) : Type 0 
   pub midway : (x : Tree) → Coded Γ fs ws node typ x → Midway Γ fs ws ops args node x at i t
 
 abbrev pub invariant-loop-at : goal.invariant-loop-at
-invariant-loop-at l = Turn l.types l.forms l.whats l.ops l.args l.node l.typ l.at l.here.node l.here.typ
+invariant-loop-at l = Turn l.types.words.now l.forms l.whats l.ops l.args l.node l.typ l.at l.here.node l.here.typ

@@ -110,28 +110,27 @@ pub returns-in_err-th : goal.returns-in_err-th
 returns-in_err-th c =
     let a = c.args in
     let p = err_from_is_err_and c.from_residual.result c.from_residual.ensures.1 in
-    rw (p.1, p.2) (λ x q h is. placed a.ops.now a.args.now is a.types.now x (c.in_err-th.ensures x h))
+    rw (p.1, p.2) (λ x q h is. placed a.ops.now a.args.now is a.types.now.words.now x (c.in_err-th.ensures x h))
 
 pub returns-in_err-on : goal.returns-in_err-on
 returns-in_err-on c =
     let p = err_from_is_err_and c.from_residual-in_err-on.result c.from_residual-in_err-on.ensures.1 in
-    rw (p.1, p.2) (λ x q h is. onward_refused (ready_typed c.requires.ready) is (c.in_ok-th.ensures x h) (sym c.in_err-on.ensures))
+    rw (p.1, p.2) (λ x q h is. onward_refused (ready_typed c.args.types.now.ready) is (c.in_ok-th.ensures x h) (sym c.in_err-on.ensures))
 
 pub kind_at-requires : goal.kind_at-requires
 kind_at-requires c =
     record {
-      sized = ready_sized c.requires.ready;
-      t_bound = known (ready_typed c.requires.ready) c.requires.short.is (c.in_ok-th.ensures c.requires.here.tree c.requires.here.coded) (sym c.in_ok-on.ensures);
+      t_bound = known (ready_typed c.args.types.now.ready) c.requires.short.is (c.in_ok-th.ensures c.requires.here.tree c.requires.here.coded) (sym c.in_ok-on.ensures);
     }
 
 pub returns-then-ne : goal.returns-then-ne
 returns-then-ne c =
-    λ x q h is. barred (ready_typed c.requires.ready) is (c.in_ok-th.ensures x h) (sym c.in_ok-on.ensures) c.if-on-ops.true
+    λ x q h is. barred (ready_typed c.args.types.now.ready) is (c.in_ok-th.ensures x h) (sym c.in_ok-on.ensures) c.if-on-ops.true
     (ne_true _ c.kind_at.ensures Array c.ne.ensures c.if-ne.true refl)
 
 pub returns : goal.returns
 returns c =
-    λ x q h is. site (ready_typed c.requires.ready) is (c.in_ok-th.ensures x h) (sym c.in_ok-on.ensures) (λ l.
+    λ x q h is. site (ready_typed c.args.types.now.ready) is (c.in_ok-th.ensures x h) (sym c.in_ok-on.ensures) (λ l.
     elim c.else-on-ops.branch [
       | else-on-ops-via-then-on-ops+else-ne w ↦ ne_false _ w.kind_at.ensures Array w.ne.ensures w.if-ne.false refl
       | else-on-ops-via-else-on-ops w ↦ absurd (omega arith)

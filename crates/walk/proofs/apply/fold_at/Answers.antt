@@ -39,7 +39,7 @@ pub returns : goal.returns
 returns c =
     record {
       coded = λ b e x h E at.
-          let l = length_codes c.args.types.now x in
-          folded_encoded _ _ b (codes c.args.types.now x) e _ _ E at (c.node_end-e.ensures x h ∙ ap (λ (k : ℕ). c.args.i + k) (sym l)) (omega (arith, l, size_pos x))
+          let l = length_codes c.args.types.now.words.now x in
+          folded_encoded _ _ b (codes c.args.types.now.words.now x) e _ _ E at (c.node_end-e.ensures x h ∙ ap (λ (k : ℕ). c.args.i + k) (sym l)) (omega (arith, l, size_pos x))
           (record { forms = c.close_up.ensures; whats = c.close_up-2.ensures; nodes = omega (arith, ends c.requires.folds c.node_end-e.ensures) });
     }

@@ -12,15 +12,15 @@ pub make_room-requires-2-clause-padded : goal.make_room-requires-2-clause-padded
 make_room-requires-2-clause-padded c = let E = c.requires.opens.coded in ((encoded_long E).1, (encoded_fronted E).1)
 
 pub write_path-p-requires-clause-room : goal.write_path-p-requires-clause-room
-write_path-p-requires-clause-room c = opens_room (ready_typed c.requires.ready) c.requires.opens c.make_room.ensures c.make_room-2.ensures
+write_path-p-requires-clause-room c = opens_room (ready_typed c.args.types.now.ready) c.requires.opens c.make_room.ensures c.make_room-2.ensures
 
 pub write_open-requires : goal.write_open-requires
 write_open-requires c =
-    let h = ready_typed c.requires.ready in
+    let h = ready_typed c.args.types.now.ready in
     let O = c.requires.opens in
     let W = c.write_path-p in
     record {
-      sized = ready_sized c.requires.ready;
+      sized = ready_sized c.args.types.now.ready;
       typ_bound = pen_known h O c.make_room.ensures c.make_room-2.ensures W.ensures;
       arg_bound = opens_slim h O c.in-Some.is;
       both_have = pen_within h O c.make_room.ensures c.make_room-2.ensures W.ensures W.auto.forms W.auto.whats;
@@ -28,7 +28,7 @@ write_open-requires c =
 
 pub returns : goal.returns
 returns c =
-    let h = ready_typed c.requires.ready in
+    let h = ready_typed c.args.types.now.ready in
     let O = c.requires.opens in
     let f = c.make_room.ensures in
     let g = c.make_room-2.ensures in

@@ -14,10 +14,10 @@ write_open-requires c =
     let R = c.requires.room in
     let w = c.loop-at.invariant R.end R.leads in
     let l = c.loop-at-test.true in
-    let h = ready_typed c.requires.ready in
+    let h = ready_typed c.args.types.now.ready in
     let room = writing_room h w R.leads l in
     record {
-      sized = ready_sized c.requires.ready;
+      sized = ready_sized c.args.types.now.ready;
       typ_bound = w.turn.fine.known;
       arg_bound = writing_slim h w R.leads l;
       both_have = (omega (arith, w.pen, room, R.forms), omega (arith, w.pen, room, R.whats));
@@ -27,7 +27,7 @@ pub overflow_add-p : goal.overflow_add-p
 overflow_add-p c =
     let R = c.requires.room in
     let w = c.loop-at.invariant R.end R.leads in
-    omega (arith, c.distance-p.ensures, w.pen, writing_pen (ready_typed c.requires.ready) w R.leads c.loop-at-test.true, R.forms)
+    omega (arith, c.distance-p.ensures, w.pen, writing_pen (ready_typed c.args.types.now.ready) w R.leads c.loop-at-test.true, R.forms)
 
 pub step_folded-requires-clause-bud : goal.step_folded-requires-clause-bud
 step_folded-requires-clause-bud c = let R = c.requires.room in (c.loop-at.invariant R.end R.leads).turn.fine
@@ -40,12 +40,12 @@ step_folded-requires-clause-added_bound c =
 pub unwrap-fresh-requires : goal.unwrap-fresh-requires
 unwrap-fresh-requires c =
     let R = c.requires.room in
-    rw (c.step_folded.ensures, (writing_first (ready_typed c.requires.ready) (c.loop-at.invariant R.end R.leads) R.leads c.loop-at-test.true).leads) refl
+    rw (c.step_folded.ensures, (writing_first (ready_typed c.args.types.now.ready) (c.loop-at.invariant R.end R.leads) R.leads c.loop-at-test.true).leads) refl
 
 pub loop-at-preserved : goal.loop-at-preserved
 loop-at-preserved c =
-    λ g e. writing_more (ready_typed c.requires.ready) (c.loop-at.invariant g e) e c.loop-at-test.true c.write_open.ensures.0 c.write_open.ensures.1
+    λ g e. writing_more (ready_typed c.args.types.now.ready) (c.loop-at.invariant g e) e c.loop-at-test.true c.write_open.ensures.0 c.write_open.ensures.1
     (ap (λ (n : ℕ). c.loop-at.p + n) c.distance-p.ensures) (sym c.step_folded.ensures ∙ c.unwrap-fresh.ensures)
 
 pub returns : goal.returns
-returns c = λ g d. writing_done (ready_typed c.requires.ready) (c.loop-at.invariant g d) d c.loop-at-test.false
+returns c = λ g d. writing_done (ready_typed c.args.types.now.ready) (c.loop-at.invariant g d) d c.loop-at-test.false

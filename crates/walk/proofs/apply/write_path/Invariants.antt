@@ -10,5 +10,5 @@ use Rattle.walk.proofs.apply.write_path.Given as goal
 
 abbrev pub invariant-loop-at : goal.invariant-loop-at
 invariant-loop-at l =
-    (g : Fresh) → sprout l.types (folded l.typ 0) (route l.ops l.args l.from (l.end - l.from)) ≡ Ok g
-    → Writing l.types l.ops l.args l.from l.end l.typ l.i g l.initial.forms l.initial.whats l.forms l.whats l.fresh l.p l.at
+    (g : Fresh) → sprout l.types.words.now (folded l.typ 0) (route l.ops l.args l.from (l.end - l.from)) ≡ Ok g
+    → Writing l.types.words.now l.ops l.args l.from l.end l.typ l.i g l.initial.forms l.initial.whats l.forms l.whats l.fresh l.p l.at

@@ -34,9 +34,6 @@ returns-then-kid_count-f c = open_field_past _ _ _ _ c.args.arg (elem_field c.ar
 pub kid_type-requires-clause-variant_of : goal.kid_type-requires-clause-variant_of
 kid_type-requires-clause-variant_of c = ranged c.requires.bud c.requires.opened_value
 
-pub casts-requires-clause-sized : goal.casts-requires-clause-sized
-casts-requires-clause-sized c = ready_sized c.requires.ready
-
 pub returns-then-not-casts : goal.returns-then-not-casts
 returns-then-not-casts c = open_none _ _ _ _ c.args.arg (elem_cast c.args.op c.args.arg c.in-3.is) (sym c.casts.ensures ∙ c.if-not-casts.true)
 

@@ -29,10 +29,7 @@ closed Γ f o e r h = h ∙ sym (grows_closed Γ f e o)
 pub returns-then-at : goal.returns-then-at
 returns-then-at c =
     let a = c.args in
-    c.step_cast.ensures ∙ sym (grows_opened a.types.now a.at (elem_of a.op a.arg) c.if-at.true)
-
-pub kind_at-k-requires-clause-sized : goal.kind_at-k-requires-clause-sized
-kind_at-k-requires-clause-sized c = ready_sized c.requires.ready
+    c.step_cast.ensures ∙ sym (grows_opened a.types.now.words.now a.at (elem_of a.op a.arg) c.if-at.true)
 
 pub returns-then-not-pointer : goal.returns-then-not-pointer
 returns-then-not-pointer c =
@@ -46,7 +43,7 @@ kid_type-requires-clause-variant_of c = λ e. absurd (pointer_not_enum _ (pointe
 pub kid_type-requires-clause-i_in_bounds : goal.kid_type-requires-clause-i_in_bounds
 kid_type-requires-clause-i_in_bounds c =
     let k = pointer_is _ c.kind_at-k.ensures c.pointer.ensures c.if-not-pointer.false in
-    omega (arith, ap length (kids_pointer (ready_typed c.requires.ready) c.args.at.typ 0 k))
+    omega (arith, ap length (kids_pointer (ready_typed c.args.types.now.ready) c.args.at.typ 0 k))
 
 pub returns-then-not-fielded : goal.returns-then-not-fielded
 returns-then-not-fielded c =
@@ -74,11 +71,8 @@ overflow_add-at-in-2 c =
       arith,
       c.requires.added_bound,
       c.kid_count-n.ensures,
-      kids_few (ready_typed c.requires.ready) c.args.at.typ 0 c.requires.bud.known (λ e. absurd (fielded_not_enum _ k e)),
+      kids_few (ready_typed c.args.types.now.ready) c.args.at.typ 0 c.requires.bud.known (λ e. absurd (fielded_not_enum _ k e)),
     )
-
-pub casts-requires-clause-sized : goal.casts-requires-clause-sized
-casts-requires-clause-sized c = ready_sized c.requires.ready
 
 pub returns-then-not-casts : goal.returns-then-not-casts
 returns-then-not-casts c =
@@ -94,7 +88,7 @@ overflow_add-result c =
       arith,
       c.requires.added_bound,
       c.kid_count-n-in-3.ensures,
-      kids_few (ready_typed c.requires.ready) c.args.at.typ c.args.arg c.requires.bud.known (openable_cast _ _ _ (sym c.casts.ensures ∙ c.if-not-casts.false)).ranged,
+      kids_few (ready_typed c.args.types.now.ready) c.args.at.typ c.args.arg c.requires.bud.known (openable_cast _ _ _ (sym c.casts.ensures ∙ c.if-not-casts.false)).ranged,
     )
 
 pub returns-else-not-pointer : goal.returns-else-not-pointer
@@ -124,4 +118,4 @@ returns-in_default c =
     let p : a.op ≢ 1 = omega arith in
     let q : a.op ≢ 2 = omega arith in
     let r : a.op ≢ 3 = omega arith in
-    closed _ _ c.if-at.false _ _ (c.step_unfold.ensures ∙ ap (grows_folded a.types.now a.at.typ a.at.added) (sym (elem_other a.op a.arg p q r)))
+    closed _ _ c.if-at.false _ _ (c.step_unfold.ensures ∙ ap (grows_folded a.types.now.words.now a.at.typ a.at.added) (sym (elem_other a.op a.arg p q r)))

@@ -36,9 +36,6 @@ found : {Γ fs ws : List ℕ} {i t : ℕ} {e e' : Elem} (r : Result Node Refusal
     → (x : Tree) → Coded Γ fs ws i t x → Steps Γ fs ws i e' x r
 found {Γ = Γ} {fs} {ws} {i} {t} r d f = subst (λ (e : Elem). (x : Tree) → Coded Γ fs ws i t x → Steps Γ fs ws i e x r) (sym d) f
 
-pub kind_at-k-requires-clause-sized : goal.kind_at-k-requires-clause-sized
-kind_at-k-requires-clause-sized c = ready_sized c.requires.ready
-
 pub bounds-whats-node : goal.bounds-whats-node
 bounds-whats-node c = (node_in c.requires.here).1
 
@@ -53,7 +50,7 @@ kid_type-requires-clause-variant_of c = λ e. absurd (pointer_not_enum _ (pointe
 pub kid_type-requires-clause-i_in_bounds : goal.kid_type-requires-clause-i_in_bounds
 kid_type-requires-clause-i_in_bounds c =
     let k = pointer_is _ c.kind_at-k.ensures c.pointer.ensures c.if-not-pointer.false in
-    omega (arith, ap length (kids_pointer (ready_typed c.requires.ready) c.args.typ 0 k))
+    omega (arith, ap length (kids_pointer (ready_typed c.args.types.now.ready) c.args.typ 0 k))
 
 pub kid_count-requires-clause-variant_of : goal.kid_count-requires-clause-variant_of
 kid_count-requires-clause-variant_of c = node_ranged c.requires.here c.requires.open_at _ c.from-what.ensures
@@ -70,19 +67,13 @@ returns-then-pointer c =
           (rw (← c.from-what.ensures) (omega (arith, w.if-kid_count-f.true, w.kid_count.ensures))))
     ]
 
-pub owner_of-u-requires-clause-counted : goal.owner_of-u-requires-clause-counted
-owner_of-u-requires-clause-counted c = ready_counted c.requires.ready
-
 pub owner_of-u-requires-clause-variant_of : goal.owner_of-u-requires-clause-variant_of
 owner_of-u-requires-clause-variant_of c = node_ranged c.requires.here c.requires.open_at _ c.from-what.ensures
-
-pub first_of-j-requires-clause-sized : goal.first_of-j-requires-clause-sized
-first_of-j-requires-clause-sized c = ready_sized c.requires.ready
 
 pub fields_end-requires-clause-fields : goal.fields_end-requires-clause-fields
 fields_end-requires-clause-fields c =
     let o = coded_opened c.requires.here.coded c.requires.open_at in
-    fields_there (ready_typed c.requires.ready) c.requires.typ_bound _ _ _ _ (rw c.from-what.ensures o.openable) c.owner_of-u.ensures c.first_of-j.ensures
+    fields_there (ready_typed c.args.types.now.ready) c.requires.typ_bound _ _ _ _ (rw c.from-what.ensures o.openable) c.owner_of-u.ensures c.first_of-j.ensures
     (omega (arith, c.if-kid_count-f.false, c.kid_count.ensures))
 
 pub fields_end-requires-clause-heres : goal.fields_end-requires-clause-heres
@@ -95,9 +86,6 @@ fields_end-requires-clause-heres c =
 
 pub kid_type-requires-in-2-clause-variant_of : goal.kid_type-requires-in-2-clause-variant_of
 kid_type-requires-in-2-clause-variant_of c = node_ranged c.requires.here c.requires.open_at _ c.from-what.ensures
-
-pub casts-requires-clause-sized : goal.casts-requires-clause-sized
-casts-requires-clause-sized c = ready_sized c.requires.ready
 
 pub returns-then-not-casts : goal.returns-then-not-casts
 returns-then-not-casts c =
@@ -112,7 +100,7 @@ returns-then-v-what c =
 pub returns-else-not-pointer : goal.returns-else-not-pointer
 returns-else-not-pointer c =
     found (Ok (record { node = c.args.node + 1; typ = c.kid_type.result })) (elem_deref c.args.op c.args.arg c.in-1.is) (λ x h.
-    deref_to (coded_opened h c.requires.open_at) (ready_typed c.requires.ready) c.requires.typ_bound
+    deref_to (coded_opened h c.requires.open_at) (ready_typed c.args.types.now.ready) c.requires.typ_bound
     (pointer_is _ c.kind_at-k.ensures c.pointer.ensures c.if-not-pointer.false) _ _ refl c.kid_type.ensures)
 
 pub returns-else-kid_count-f : goal.returns-else-kid_count-f
@@ -120,7 +108,7 @@ returns-else-kid_count-f c =
     let w = c.from-what.ensures in
     found (Ok (record { node = c.fields_end.result; typ = c.kid_type-in-2.result })) (elem_field c.args.op c.args.arg c.in-2.is) (λ x h.
     let o = coded_opened h c.requires.open_at in
-    field_to o (ready_typed c.requires.ready) c.requires.typ_bound (pointer_is _ c.kind_at-k.ensures c.pointer-in-2.ensures c.if-pointer.false)
+    field_to o (ready_typed c.args.types.now.ready) c.requires.typ_bound (pointer_is _ c.kind_at-k.ensures c.pointer-in-2.ensures c.if-pointer.false)
     c.args.arg (rw (← w) (omega (arith, c.if-kid_count-f.false, c.kid_count.ensures)))
     c.fields_end.result c.kid_type-in-2.result
     (c.fields_end.ensures _ (fields_here o _ _ _ _ w c.owner_of-u.ensures c.first_of-j.ensures (omega (arith, c.if-kid_count-f.false, c.kid_count.ensures))))

@@ -9,9 +9,6 @@ use Rattle.walk.proofs.Growing.{kids_few}
 use Rattle.walk.proofs.Grows.{folded_shut, folded_enum, folded_index}
 use Rattle.walk.proofs.step.step_unfold.Goals as goal
 
-pub kind_at-k-requires-clause-sized : goal.kind_at-k-requires-clause-sized
-kind_at-k-requires-clause-sized c = ready_sized c.requires.ready
-
 pub returns-then-shut : goal.returns-then-shut
 returns-then-shut c = folded_shut _ _ _ refl (shut_is _ c.kind_at-k.ensures c.shut.ensures c.if-shut.true)
 
@@ -25,7 +22,7 @@ kid_count-requires-clause-variant_of c = λ e. absurd (eq_false _ Enum c.kind_at
 
 pub overflow_add-result : goal.overflow_add-result
 overflow_add-result c =
-    let few = kids_few (ready_typed c.requires.ready) c.args.typ 0 c.requires.typ_bound (λ e. absurd (eq_false _ Enum c.kind_at-k.ensures c.eq.ensures c.if-eq.false refl e)) in
+    let few = kids_few (ready_typed c.args.types.now.ready) c.args.typ 0 c.requires.typ_bound (λ e. absurd (eq_false _ Enum c.kind_at-k.ensures c.eq.ensures c.if-eq.false refl e)) in
     omega (arith, c.kid_count.ensures, c.requires.added_bound)
 
 pub returns : goal.returns
