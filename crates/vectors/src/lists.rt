@@ -1,5 +1,5 @@
 // The lists of a case: each is its length and its words.
-ghost use Rattle.std.specs.Prelude.{◌≤◌};
+ghost use Rattle.std.specs.Prelude.{◌≡◌, ◌≤◌, min, length, drop, slice_index};
 
 // The first list, as far as it is there, and the words behind it.
 pub fn split_list(words: &[u32]) -> (&[u32], &[u32]) {
@@ -10,12 +10,16 @@ pub fn split_list(words: &[u32]) -> (&[u32], &[u32]) {
 }
 
 // The words from `at` on.
-pub fn words_from(words: &[u32], at: usize) -> &[u32] {
+pub fn words_from(words: &[u32], at: usize) -> &[u32]
+    ensures { result.now ≡ drop (min at (length words.now)) words.now }
+{
     &words[at.min(words.len())..]
 }
 
 // Word k, or 0.
-pub fn number(words: &[u32], k: usize) -> u32 {
+pub fn number(words: &[u32], k: usize) -> u32
+    ensures { result ≡ slice_index words.now k }
+{
     words.get(k).copied().unwrap_or(0)
 }
 
