@@ -7,8 +7,6 @@ use borrow.Rule.Slice.PartMut.{put_mid, mid_of}
 use lib.ListN.{length, take, drop, replicate, length-drop, drop_of_length-le}
 use lib.Seq.{length-take-le, take_at, take_all}
 use Rattle.std.specs.Prelude.{Option, None, Some}
-use Rattle.refusal.specs.declared.Refusal.{Refusal}
-use Rattle.refusal.specs.Refusal.{number}
 use Rattle.model.specs.Answer.{refused, done}
 use Rattle.model.specs.Record.{lent}
 use Rattle.model.specs.Ghosts.{fresh, close, scan, answer_text, printed, ghosts}
@@ -34,7 +32,7 @@ pub words_said : (o : Option Scan) (s : Scan) (words : List ℕ) → o ≡ Some 
 words_said o s words e = rw e refl
 
 -- a refusal is printed
-pub refuses_says : {t t' : List ℕ} {n : ℕ} {r : Refusal} {bytes : List ℕ} → Refuses t t' n r → answer_text 0 (refused (number r)) ≡ bytes → Says t t' n bytes
+pub refuses_says : {t t' : List ℕ} {n r : ℕ} {bytes : List ℕ} → Refuses t t' n r → answer_text 0 (refused r) ≡ bytes → Says t t' n bytes
 refuses_says h e = record { long = h.long; inside = h.inside; said = h.said ∙ e }
 
 -- bytes are printed, by another name

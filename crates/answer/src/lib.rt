@@ -33,7 +33,7 @@ fn answer_records(types: &[u32], fun: &[u32], text: &mut [u8]) -> usize
     let mut told = [0u32; 341];
     match ghost_statements(types, fun, &mut forms, &mut whats, &mut out, &mut told) {
         Ok(_) => print_record(&out, &told, text),
-        Err(e) => print_refusal(text, e),
+        Err(e) => print_refusal(text, u32::from(e)),
     }
 }
 
@@ -44,7 +44,7 @@ fn answer_words(words: &[u32], text: &mut [u8]) -> usize
 {
     let (types, fun) = words.split_at(function_start(words));
     if function_length(fun) < fun.len() {
-        return print_refusal(text, Refusal::BadFunction);
+        return print_refusal(text, u32::from(Refusal::BadFunction));
     }
     answer_records(types, fun, text)
 }
@@ -59,7 +59,7 @@ pub fn respond(s: Option<Scan>, words: &[u32], text: &mut [u8]) -> usize
 {
     match s {
         Some(s) => answer_words(&words[..s.total], text),
-        None => print_refusal(text, Refusal::BadFunction),
+        None => print_refusal(text, u32::from(Refusal::BadFunction)),
     }
 }
 

@@ -66,7 +66,7 @@ same_place_refl [] = refl
 same_place_refl (e ∷ p) = cc (same_elem_refl e, same_place_refl p)
 
 -- places that pass are equal
-same_spot_true : (a b : Spot) → same_spot a b ≡ true → a ≡ b
+pub same_spot_true : (a b : Spot) → same_spot a b ≡ true → a ≡ b
 unfolding same_spot
 same_spot_true a b h =
     let p = eqb-true a.local b.local (and_left (eqb a.local b.local) (same_place a.place b.place) h) in
@@ -74,7 +74,7 @@ same_spot_true a b h =
     λ i. record { local = p i; place = q i }
 
 -- and equal ones pass
-same_spot_eq : (a b : Spot) → a ≡ b → same_spot a b ≡ true
+pub same_spot_eq : (a b : Spot) → a ≡ b → same_spot a b ≡ true
 unfolding same_spot
 same_spot_eq a b e = cc (eq-eqb a.local b.local (cc), same_place_refl a.place)
 

@@ -32,7 +32,7 @@ module _ {Γ os fn : List ℕ} (A : Accepted Γ os fn) {read : ℕ} (l : read < 
     pub place_spot : spot_of ops args ≡ some (spot_before fn read)
     place_spot = rw (eo, ea, e) (used_read A.formed l u)
 
-    place_locals : locals_ok Γ locals ≡ true
+    pub place_locals : locals_ok Γ locals ≡ true
     place_locals = rw el (locals_pass Γ fn A.function)
 
     -- with a state of the function's locals they are what a call within a run asks

@@ -55,7 +55,8 @@ pub fn plan_of(fun: &Function, b: usize, s: &State) -> Result<Option<Match>, Ref
     let r = root_before(&fun.record, read);
     let ops = fun.record.ops_from(r, read);
     let args = fun.record.args_from(r, read);
-    match subject_at(&fun.types, fun.record.local_types(), s, ops, args)? {
+    let locals = fun.record.local_types();
+    match subject_at(&fun.types, locals, &s.forms, &s.whats, ops, args)? {
         On::Element => Ok(None),
         On::Enum(typ) => {
             let on = Subject { read, typ };

@@ -7,11 +7,12 @@ use native.Mathlib.Omega.{arith}
 use lib.ListN.{length, get_or, take, drop, length-map}
 use Rattle.std.specs.Prelude.{Ok, Err}
 use Rattle.model.specs.Answer.{Answer, refused}
+use Rattle.model.specs.State.{State}
 use Rattle.model.specs.Tree.{Tree, Forest, size}
 use Rattle.model.specs.Place.{At, later}
 use Rattle.model.specs.Collect.{firsts, foldss, folds_at_ret}
 use Rattle.base.specs.Tests.{clash}
-use Rattle.records.specs.Here.{Coded, CodedAll}
+use Rattle.records.specs.Here.{Coded, CodedAll, Holds}
 use Rattle.records.specs.Coded.{coded_none, coded_split}
 use Rattle.records.specs.Built.{none_coded, more_coded}
 use Rattle.refusal.specs.declared.Refusal.{Refusal}
@@ -20,7 +21,7 @@ use Rattle.statements.specs.declared.Out.{Out}
 use Rattle.statements.specs.Kept.{point_of, Puts}
 use Rattle.collectors.specs.declared.got.Got.{Got}
 use Rattle.collectors.specs.Trail.{lines_of, root}
-use Rattle.collectors.specs.Gets.{Tells, OwingAll}
+use Rattle.collectors.specs.Gets.{Tells, StandAll, OwingAll}
 use Rattle.collect.specs.Answers.{Collects, Owed}
 use Rattle.collectors.proofs.Lines.{lines_later}
 use Rattle.collectors.proofs.Telling.{told, told_done, told_refused}
@@ -44,6 +45,10 @@ collects_refused {x} T =
       recorded = λ q d. clash (cc);
       stopped = λ e d. let same : x ≡ e = cc in told_refused T ∙ ap (λ (y : Refusal). refused (number y)) same;
     }
+
+-- a state that is held stands, with room for the ways in it
+pub holds_stand : {Γ locals : List ℕ} {s : State} {S : Forest} → Holds Γ locals s S → StandAll Γ s.forms s.whats 0 locals 1
+holds_stand {S} h = record { trees = S; coded = h.trees; room = omega (arith, h.deep) }
 
 -- the first of several trees
 coded_firsts : {Γ fs ws : List ℕ} (n : ℕ) (ts : List ℕ) {xs : Forest} {i : ℕ} → CodedAll Γ fs ws i ts xs → CodedAll Γ fs ws i (take n ts) (firsts n xs)

@@ -120,6 +120,6 @@ pub fn collect_folds_at_ret(
     if let Err(r) = check_given(types, locals, s) {
         return refused(out, r);
     }
-    let o = states::collect_folds_at_ret(types, locals, a, &s, out, start());
+    let o = states::collect_folds_at_ret(types, locals, a, &s.forms, &s.whats, out, start());
     finish(out, o)
 }

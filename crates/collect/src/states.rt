@@ -36,12 +36,13 @@ fn unfolds_locals<'a>(
     ensures { OpeningAll types.now.words.now out.old o out.new result (root 0) forms.now whats.now 0 locals.now }
 {
     let mut g = reached(0, 0, o);
-    for (l, t) in locals.iter().enumerate() {
+    let count = locals.len();
+    for l in 0..count {
         set_item(ops, args, 0, ROOT, l);
         let c = Cursor {
             first: 0,
             second: g.second,
-            typ: *t as usize,
+            typ: locals[l] as usize,
             depth: 1,
         };
         g = unfolds_node(types, forms, whats, c, ops, args, out, g.out)?;
@@ -70,12 +71,13 @@ fn collect_locals<'a>(
     ensures { LeadingAll types.now.words.now out.old o out.new result (root 0) f1.now w1.now 0 f2.now w2.now 0 locals.now }
 {
     let mut g = reached(0, 0, o);
-    for (l, typ) in locals.iter().enumerate() {
+    let n = locals.len();
+    for l in 0..n {
         set_item(ops, args, 0, ROOT, l);
         let c = Cursor {
             first: g.first,
             second: g.second,
-            typ: *typ as usize,
+            typ: locals[l] as usize,
             depth: 1,
         };
         g = collect_node(types, f1, w1, f2, w2, c, ops, args, out, g.out)?;
@@ -162,24 +164,23 @@ pub fn collect_unfolds(
 }
 
 // The folds that a return owes: of the locals 1 to a. The state is lent, so that a block that returns need not copy it.
-pub fn collect_folds_at_ret(
+pub fn collect_folds_at_ret<'a>(
     types: &Types,
     locals: &[u32],
     a: usize,
-    s: &State,
+    forms: &'a [u16],
+    whats: &'a [u16],
     out: &mut [u32],
     o: Out,
 ) -> Out
     requires locals_value { locals_ok types.now.words.now locals.now ≡ true }
     requires a_in_bounds { a < length locals.now }
-    requires held_in { HeldIn types.now.words.now locals.now s.now.forms s.now.whats }
+    requires held_in { HeldIn types.now.words.now locals.now forms.now whats.now }
     requires counted { Counted out.old o }
-    ensures { Owes types.now.words.now locals.now a s.now.forms s.now.whats out.old o out.new result }
+    ensures { Owes types.now.words.now locals.now a forms.now whats.now out.old o out.new result }
 {
     let mut ops = [0u32; 130];
     let mut args = [0u32; 130];
-    let g = folds_locals(
-        types, locals, a, &s.forms, &s.whats, &mut ops, &mut args, out, o,
-    );
+    let g = folds_locals(types, locals, a, forms, whats, &mut ops, &mut args, out, o);
     g.out
 }

@@ -17,6 +17,7 @@ use Rattle.state.specs.declared.kids.Kids.{Kids}
 use Rattle.state.specs.Kids.{KidsOf}
 use Rattle.state.proofs.Fields.{ready_typed, fields_first, fields_rest}
 use Rattle.collectors.specs.declared.got.Children.{Children}
+use Rattle.collectors.specs.Trail.{Short}
 use Rattle.collectors.specs.Gets.{types_of, left, Room, Siblings}
 
 -- a kind of the record, as the code names it, has its number
@@ -43,6 +44,10 @@ module _ {Γ : List ℕ} {k : Children} (S : Siblings Γ k) (p : 0 < k.kids.coun
   -- it has a type
   pub siblings_type : {t : ℕ} → t ≡ part Γ k.kids.owner k.kids.first → t < ntypes Γ
   siblings_type e = rw e (fields_first S.fields p)
+
+  -- the way to it is short
+  pub siblings_short : Short k.way
+  siblings_short = record { variant = omega (arith, S.variant); child = omega (arith, S.child) }
 
   -- its numbers are small
   pub siblings_room : {offs : List ℕ} → Ready Γ offs → Room k

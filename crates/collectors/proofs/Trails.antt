@@ -77,6 +77,10 @@ module _ {ops args : List ℕ} (L : Long ops args) {n : ℕ} where
 pub keeps_then : {a b a₁ b₁ a₂ b₂ : List ℕ} {n : ℕ} → Keeps a b a₁ b₁ n → Keeps a₁ b₁ a₂ b₂ n → Keeps a b a₂ b₂ n
 keeps_then K J = record { items = J.items ∙ K.items }
 
+-- nothing was set
+pub keeps_none : {a b : List ℕ} {n : ℕ} → Keeps a b a b n
+keeps_none = record { items = refl }
+
 -- a kind that is an enum's, as the code tests it
 pub enum_code : (k : Kind) → eqb (kind_code k) 7 ≡ sameb the_type k Enum
 enum_code Opaque = refl

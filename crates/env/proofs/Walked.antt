@@ -28,7 +28,7 @@ module _ {Γ locals : List ℕ} {s : State} {ops args : List ℕ} {ok : Spot →
   walk_limited {q} is = spot_limited (length locals) q 64 (walks q (given_passes g is))
 
   -- the walk has ended at w, in the tree of the place's local
-  abbrev pub walk_sited : {w : Walk} → WalksThere Γ locals s ops args (Ok w) → {E : Forest} {q : Spot} → Holds Γ locals (value s) E → spot_of ops args ≡ some q
+  abbrev pub walk_sited : {w : Walk} → WalksThere Γ locals s.forms s.whats ops args (Ok w) → {E : Forest} {q : Spot} → Holds Γ locals (value s) E → spot_of ops args ≡ some q
       → Sited Γ s ops args w
   walk_sited W {E} {q} h is =
       record {
@@ -39,5 +39,5 @@ module _ {Γ locals : List ℕ} {s : State} {ops args : List ℕ} {ok : Spot →
         is = is;
         known = (walk_limited is).known;
         short = (walk_limited is).short;
-        site = W E q h is;
+        site = W s.nodes E q h is;
       }

@@ -1,4 +1,4 @@
--- What the calls within a run give, in every state that is held and at the place that the items are.
+-- What the calls within a run give, in every state that is held, or that their arrays hold, and at the place that the items are.
 use Rattle.std.specs.Prelude.{◌≡◌, List, ℕ, length, Option, Result}
 use Rattle.std.proofs.Math.Bool.{true}
 use Rattle.std.proofs.Math.Option.{some}
@@ -11,7 +11,7 @@ use Rattle.model.specs.Calls.{spot_of}
 use Rattle.records.specs.Here.{Holds}
 use Rattle.refusal.specs.Refusal.{answered}
 use Rattle.refusal.specs.declared.Refusal.{Refusal}
-use Rattle.state.specs.Value.{value}
+use Rattle.state.specs.Value.{value, state_in}
 use Rattle.state.specs.declared.nodes.State.{State}
 use Rattle.walk.specs.Fresh.{distance}
 use Rattle.walk.specs.Applied.{element}
@@ -32,14 +32,6 @@ module _ (Γ locals : List ℕ) (s : State) (ops args : List ℕ) where
   -- X of every state that s holds and the place that the items are
   abbrev pub Wherever : (Forest → Spot → Type 0) → Type 0
   Wherever X = (E : Forest) (q : Spot) → Holds Γ locals (value s) E → spot_of ops args ≡ some q → X E q
-
-  -- where the walk of the place leads
-  abbrev pub WalksThere : Result Walk Refusal → Type 0
-  WalksThere r = Wherever (λ E q. Walks Γ s.forms s.whats ops args (sizes (firsts q.local E)) q.place (pick q.local E) r)
-
-  -- what a match on the place is on
-  abbrev pub SubjectThere : Result On Refusal → Type 0
-  SubjectThere r = Wherever (λ E q. answered r ≡ subject_at Γ q E >>= λ o. done (on_of o))
 
   -- the place is used: what is recorded, the number told with it, and the state after
   abbrev pub ProjectsThere : Usage → Type 0
@@ -64,6 +56,17 @@ module _ (Γ locals : List ℕ) (s : State) (ops args : List ℕ) where
   -- what that step does
   abbrev pub LastsThere : More → Result (Option Walk) Refusal → Type 0
   LastsThere m r = Wherever (λ E q. Lasts Γ locals ops args s m (last_step Γ (element m) q E) r)
+
+-- THE WALK ALONE, in arrays whose number of nodes is not told
+
+module _ (Γ locals fs ws ops args : List ℕ) where
+  -- where the walk of the place leads
+  abbrev pub WalksThere : Result Walk Refusal → Type 0
+  WalksThere r = (n : ℕ) → Wherever Γ locals (state_in fs ws n) ops args (λ E q. Walks Γ fs ws ops args (sizes (firsts q.local E)) q.place (pick q.local E) r)
+
+  -- what a match on the place is on
+  abbrev pub SubjectThere : Result On Refusal → Type 0
+  SubjectThere r = (n : ℕ) → Wherever Γ locals (state_in fs ws n) ops args (λ E q. answered r ≡ subject_at Γ q E >>= λ o. done (on_of o))
 
 -- WHERE THE WALK HAS ENDED, at w
 

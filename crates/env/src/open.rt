@@ -44,7 +44,7 @@ fn last_step(
     requires staying { Staying more }
     ensures { LastsThere types.now.words.now locals.now s.now ops.now args.now more result }
 {
-    let w = ensure_unfolded(types, locals, s, ops, args)?;
+    let w = ensure_unfolded(types, locals, &s.forms, &s.whats, ops, args)?;
     last_at(types, s, w, more)
 }
 
@@ -84,7 +84,10 @@ pub fn can_downcast(
         op: DOWNCAST,
         arg: v,
     };
-    last_step(types, locals, s, ops, args, more).map(|_| ())
+    match last_step(types, locals, s, ops, args, more) {
+        Ok(_) => Ok(()),
+        Err(r) => Err(r),
+    }
 }
 
 // A match arm's own unfolding: walk the place read, then downcast to the variant.

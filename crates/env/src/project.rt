@@ -1,7 +1,7 @@
 // The walk of a place, `Env::projection`, and a fold carried out, in a state that passes.
 ghost use Rattle.std.specs.Prelude.{length};
 ghost use Rattle.model.specs.Place.{Fold, spot_ok, used_ok, fold_ok};
-ghost use Rattle.env.specs.Given.{Asked, Sited};
+ghost use Rattle.env.specs.Given.{Asked, AskedIn, Sited};
 ghost use Rattle.env.specs.Answers.{usage, moved};
 ghost use Rattle.env.specs.There.{ProjectsThere, CarriesThere, WalksThere, SubjectThere, ProjectsAt};
 
@@ -52,34 +52,37 @@ pub enum On {
 }
 
 // `Env::ensure_unfolded`: the walk of the place in its local's tree. What has to be opened on the way is found here; `open_nodes` opens it.
-pub fn ensure_unfolded(
+// Two arrays of a state, here and in `subject_at`: how many nodes they hold isn't read, so no caller is asked for it.
+pub fn ensure_unfolded<'a>(
     types: &Types,
     locals: &[u32],
-    s: &State,
+    forms: &'a [u16],
+    whats: &'a [u16],
     ops: &[u32],
     args: &[u32],
 ) -> Result<Walk, Refusal>
-    requires { Asked types.now.words.now types.now.offs.now locals.now s.now ops.now args.now (spot_ok 64 (length locals.now)) }
-    ensures { WalksThere types.now.words.now locals.now s.now ops.now args.now result }
+    requires { AskedIn types.now.words.now types.now.offs.now locals.now forms.now whats.now ops.now args.now (spot_ok 64 (length locals.now)) }
+    ensures { WalksThere types.now.words.now locals.now forms.now whats.now ops.now args.now result }
 {
     let l = args[0] as usize;
-    let i = local_at(types, &s.forms, &s.whats, locals, l);
-    walk_along(types, &s.forms, &s.whats, ops, args, i, locals[l] as usize)
+    let i = local_at(types, forms, whats, locals, l);
+    walk_along(types, forms, whats, ops, args, i, locals[l] as usize)
 }
 
 // What a match on the place is on: "a match first walks its place, for its type alone". A walk that ends before an index ends at an
 // array, so the place is an element of it; any other place must be an enum.
-pub fn subject_at(
+pub fn subject_at<'a>(
     types: &Types,
     locals: &[u32],
-    s: &State,
+    forms: &'a [u16],
+    whats: &'a [u16],
     ops: &[u32],
     args: &[u32],
 ) -> Result<On, Refusal>
-    requires { Asked types.now.words.now types.now.offs.now locals.now s.now ops.now args.now (used_ok (length locals.now)) }
-    ensures { SubjectThere types.now.words.now locals.now s.now ops.now args.now result }
+    requires { AskedIn types.now.words.now types.now.offs.now locals.now forms.now whats.now ops.now args.now (used_ok (length locals.now)) }
+    ensures { SubjectThere types.now.words.now locals.now forms.now whats.now ops.now args.now result }
 {
-    let w = ensure_unfolded(types, locals, s, ops, args)?;
+    let w = ensure_unfolded(types, locals, forms, whats, ops, args)?;
     let early = w.walked < ops.len();
     if early {
         return Ok(On::Element);
@@ -132,7 +135,7 @@ fn used(
     requires { Asked types.now.words.now types.now.offs.now locals.now s.old ops.now args.now (fold_ok (length locals.now)) }
     ensures { ProjectsThere types.now.words.now locals.now s.old ops.now args.now (usage result s.new) }
 {
-    let w = ensure_unfolded(types, locals, s, ops, args)?;
+    let w = ensure_unfolded(types, locals, &s.forms, &s.whats, ops, args)?;
     used_at(types, s, w, ops, args)
 }
 

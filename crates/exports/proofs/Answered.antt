@@ -42,7 +42,7 @@ number_length (refused n) = refl
 number_length (done l) = refl
 
 -- a refusal's number, among one number more
-one_more : (ns : List ℕ) (n : ℕ) → OneOf ns n → OneOf (0 ∷ ns) n
+pub one_more : (ns : List ℕ) (n : ℕ) → OneOf ns n → OneOf (0 ∷ ns) n
 unfolding elem
 one_more ns n e = split (eqb n 0) (λ d. rw d refl) (λ d. rw d e)
 

@@ -32,6 +32,7 @@ fn code<T: Drop>(r: Result<T, Refusal>) -> u32
 
 // 0, or the refusal. Accepted: the counts of statements and entries are the first two words of out, and told has a number for each statement. A
 // refusal leaves zeros in all that was lent.
+#[tactic(auto, using(crate::proofs::Answered::exported, crate::proofs::Answered::code_one, crate::proofs::Answered::code_ok, crate::proofs::Answered::one_more), unfolding(model::specs::Rounds::elem))]
 #[unsafe(no_mangle)]
 pub extern "C" fn exports_ghost_statements(
     types: &[u32],
@@ -80,6 +81,7 @@ pub extern "C" fn exports_ghosts(bytes: &[u8], text: &mut [u8; 14336]) -> usize
 }
 
 // The items that a list of statements gives: 0, or the refusal. Accepted: count, op[], arg[], then zeros. A refusal leaves zeros.
+#[tactic(auto, using(crate::proofs::Answered::exported_items, crate::proofs::Answered::code_one, crate::proofs::Answered::one_more), unfolding(model::specs::Rounds::elem))]
 #[unsafe(no_mangle)]
 pub extern "C" fn exports_statement_items(list: &[u32], out: &mut [u32]) -> u32
     ensures exported_items { ExportedItems list.now (length out.old) out.new result }
@@ -89,6 +91,7 @@ pub extern "C" fn exports_statement_items(list: &[u32], out: &mut [u32]) -> u32
 }
 
 // Two type records as one: 0, or the refusal. Accepted: the merged record, then zeros; its sizes are its first two words. A refusal leaves zeros.
+#[tactic(auto, using(crate::proofs::Answered::exported_merged, crate::proofs::Answered::code_one, crate::proofs::Answered::code_ok, crate::proofs::Answered::one_more), unfolding(model::specs::Rounds::elem))]
 #[unsafe(no_mangle)]
 pub extern "C" fn exports_merge_types(first: &[u32], second: &[u32], out: &mut [u32]) -> u32
     ensures exported_merged { ExportedMerged first.now second.now (length out.old) out.new result }

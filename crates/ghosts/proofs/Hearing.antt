@@ -1,5 +1,6 @@
 -- The pieces that were read, and the bytes that they are.
-use Rattle.std.proofs.Common.{◌≡◌, ap, ◌∙◌, Option, None, Some, IfSome, List, [], ◌∷◌, ◌++◌, append-nil, ℕ, length, take, ℤ, FitsSigned, to_z, of_z, w64}
+use Rattle.std.proofs.Common.{◌≡◌, ap, ◌∙◌, subst, Option, None, Some, IfSome, List, [], ◌∷◌, ◌++◌, append-nil, ℕ, ◌≤◌, length, take, ℤ, pos, negsuc, FitsSigned, to_z, of_z, w64, arith}
+use Rattle.std.proofs.Math.Nat.{min-le_right, min-eq_left}
 use Rattle.std.proofs.lemmas.Int.{to_z-of_z}
 use Rattle.std.proofs.KnownBytes.{Consumes-nil, Consumes-trans}
 use Rattle.std.specs.Io.KnownBytes.{Consumes, IsAtEnd}
@@ -10,7 +11,7 @@ use Rattle.text.specs.Reading.{Reads, Steps}
 use Rattle.text.specs.Pieces.{pieces_more}
 use Rattle.answer.specs.Said.{Ended}
 use Rattle.ghosts.specs.declared.Input.{Input}
-use Rattle.ghosts.specs.Heard.{Piece, scan_of, clamp_len}
+use Rattle.ghosts.specs.Heard.{Brings, Piece, scan_of, clamp_len}
 
 -- some pieces have been read, which a reader's bytes have lost, where they are known
 pub record Heard (old new : Option (List ℕ)) (s : Option Scan) (words : List ℕ) : Type 0 where
@@ -49,3 +50,14 @@ heard_whole (Some xs) (Some ys) h e k = let w : xs ≡ h.bytes = h.taken ∙ ap 
 pub piece_tested : (n : ℕ) (z : ℤ) (buf : List ℕ) {words after : List ℕ} {s r : Option Scan} → FitsSigned w64 z → n ≡ clamp_len (to_z w64 (of_z w64 z)) (length buf)
     → Steps (scan (take n buf)) s words r after → Steps (scan (take (clamp_len z (length buf)) buf)) s words r after
 piece_tested n z buf f e h = rw (e ∙ ap (λ x. clamp_len x (length buf)) (to_z-of_z w64 z f)) at h
+
+clamp_le : (x : ℤ) (most : ℕ) → clamp_len x most ≤ most
+clamp_le (pos k) most = min-le_right k most
+clamp_le (negsuc k) most = omega arith
+
+-- and so of what `hear` brings, of each signed count that its number of bytes is
+pub brings_counted : {n : ℕ} {buf : List ℕ} {s : Option Scan} {words after : List ℕ} {r : Input} → Brings n buf s words r after → (z : ℤ) → FitsSigned w64 z
+    → n ≡ clamp_len (to_z w64 (of_z w64 z)) (length buf) → Steps (scan (take (clamp_len z (length buf)) buf)) s words (scan_of r) after
+brings_counted {n} {buf} {s} {words} {after} {r} B z f e =
+    let l : n ≤ length buf = rw e (clamp_le (to_z w64 (of_z w64 z)) (length buf)) in
+    piece_tested n z buf f e (subst (λ (k : ℕ). Steps (scan (take k buf)) s words (scan_of r) after) (min-eq_left l) B.steps)

@@ -41,11 +41,11 @@ pub tells_few : (op m : ℕ) → length (told_in ((op, m) ∷ [])) ≤ 1
 unfolding told_in
 tells_few op m = split (leb 15 op) (λ e. rw (e, told_in) (omega arith)) (λ e. rw (e, told_in) (omega arith))
 
-verb_unmarked : (op m : ℕ) → 15 ≤ op → unmarked (op, m) ≡ 0
+pub verb_unmarked : (op m : ℕ) → 15 ≤ op → unmarked (op, m) ≡ 0
 unfolding unmarked
 verb_unmarked op m l = rw (le-leb 15 op l, unmarked) refl
 
-other_unmarked : (op m : ℕ) → op < 15 → unmarked (op, m) ≡ m
+pub other_unmarked : (op m : ℕ) → op < 15 → unmarked (op, m) ≡ m
 unfolding unmarked
 other_unmarked op m l = rw (lt-leb 15 op l, unmarked) refl
 
@@ -118,7 +118,7 @@ module _ (ws : List ℕ) (h : Whole ws) (k : ℕ) (l : k < word ws 1) where
 -- OF LINES
 
 -- a number is read back
-number_suc : (n : ℕ) → number_of (suc n) ≡ n
+pub number_suc : (n : ℕ) → number_of (suc n) ≡ n
 unfolding number_of
 number_suc n = rw (ne_eqb (suc n) 0 (λ e. omega arith)) (omega arith)
 

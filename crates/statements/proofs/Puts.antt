@@ -40,7 +40,7 @@ alike_then A B = record { statements = B.statements ∙ A.statements; entries = 
 pub counted_alike : {out : List ℕ} {o p : Out} → Alike o p → Counted out o → Counted out p
 counted_alike A C = record { statements = omega (arith, A.statements, A.entries, C.statements); entries = omega (arith, A.entries, C.entries) }
 
-kept_alike : {k : ℕ} {es : List Entry} {out : List ℕ} {o p : Out} → Alike o p → Kept k es out o → Kept k es out p
+pub kept_alike : {k : ℕ} {es : List Entry} {out : List ℕ} {o p : Out} → Alike o p → Kept k es out o → Kept k es out p
 kept_alike A K = record {
   fits = λ h. let F = K.fits h in record { statements = A.statements ∙ F.statements; entries = A.entries ∙ F.entries; ops = F.ops; args = F.args };
   over = λ h. A.entries ∙ K.over h;

@@ -8,8 +8,6 @@ use Rattle.model.specs.Block.{elem_of}
 use Rattle.model.specs.Frame.{Line}
 use Rattle.model.specs.Record.{Entry, statement_record, lent, numbers}
 use Rattle.model.specs.Ghosts.{number, elem_text, verb_text, told_text, lines_text, answer_text}
-use Rattle.refusal.specs.declared.Refusal.{Refusal}
-use Rattle.refusal.specs.Refusal as Refusals
 use Rattle.text.specs.declared.print.Pen.{Pen}
 use Rattle.text.specs.declared.print.Verb.{Verb}
 use Rattle.text.specs.declared.print.Verb.TheVariants as verb
@@ -85,7 +83,7 @@ pub record Prints (out told t t' : List ℕ) (r : ℕ) : Type 0 where
   pub lines : (entry : ℕ) (ls : List (Line At)) → out ≡ lent (length out) (statement_record entry ls) → told ≡ lent (length told) (numbers ls) → take r t' ≡ lines_text entry ls
 
 -- refusal r is printed, up to n
-pub record Refuses (t t' : List ℕ) (n : ℕ) (r : Refusal) : Type 0 where
+pub record Refuses (t t' : List ℕ) (n r : ℕ) : Type 0 where
   pub long : length t' ≡ length t
   pub inside : n ≤ length t
-  pub said : take n t' ≡ answer_text 0 (refused (Refusals.number r))
+  pub said : take n t' ≡ answer_text 0 (refused r)

@@ -6,7 +6,6 @@ ghost use Rattle.records.specs.Entries.{Whole, entries_of};
 ghost use Rattle.text.specs.Printing.{Writes, entry_text, point, ends, verb_now, told_bytes, FewDigits, Moves, kept_for, Prints, Refuses};
 
 use mir::items::{DEREF, DOWNCAST, FIELD, INDEX, ROOT};
-use refusal::Refusal;
 use statements::numbers::DASH;
 use statements::{BEFORE, ENTRY, FOLD};
 
@@ -184,10 +183,11 @@ pub fn print_record(out: &[u32], told: &[u32], text: &mut [u8]) -> usize
 }
 
 // A refusal as text.
-pub fn print_refusal(text: &mut [u8], r: Refusal) -> usize
+#[tactic(auto, using(records::specs::Digits::length_number))]
+pub fn print_refusal(text: &mut [u8], r: u32) -> usize
     requires { 19 ≤ length text.old }
     ensures { Refuses text.old text.new result r }
 {
-    let a = put_numbered(text, 0, b"refused ", u32::from(r));
+    let a = put_numbered(text, 0, b"refused ", r);
     put(text, a, NEWLINE)
 }

@@ -65,14 +65,14 @@ pub fn scan_byte(s: Option<Scan>, c: u8, words: &mut [u32]) -> Option<Scan>
     }
 }
 
-// A piece of the text.
+// A piece of the text. Behind other text nothing is read.
 pub fn scan_piece(s: Option<Scan>, text: &[u8], words: &mut [u32]) -> Option<Scan>
     requires { length words.old ≡ 4096 }
     ensures { Steps (scan text.now) s words.old result words.new }
 {
-    let mut t = s;
+    let mut t = s?;
     for c in text {
-        t = scan_byte(t, *c, words);
+        t = scan_byte(Some(t), *c, words)?;
     }
-    t
+    Some(t)
 }

@@ -1,8 +1,11 @@
 // The lists of a case: each is its length and its words.
-ghost use Rattle.std.specs.Prelude.{◌≡◌, ◌≤◌, min, length, drop, slice_index};
+ghost use Rattle.std.specs.Prelude.{◌≡◌, ◌≤◌, min, length, take, drop, slice_index};
 
 // The first list, as far as it is there, and the words behind it.
-pub fn split_list(words: &[u32]) -> (&[u32], &[u32]) {
+pub fn split_list(words: &[u32]) -> (&[u32], &[u32])
+    ensures list { result.0.now ≡ take (slice_index words.now 0) (drop 1 words.now) }
+    ensures behind { result.1.now ≡ drop (slice_index words.now 0) (drop 1 words.now) }
+{
     match words.split_first() {
         Some((n, rest)) => rest.split_at(rest.len().min(*n as usize)),
         None => (words, words),

@@ -38,7 +38,8 @@ fn returned(fun: &Function, i: usize, s: &State, out: &mut [u32], o: Out) -> Out
             &fun.types,
             fun.record.local_types(),
             fun.record.nargs(),
-            s,
+            &s.forms,
+            &s.whats,
             out,
             at_point(o, point_of(i, false)),
         );

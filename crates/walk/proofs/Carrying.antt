@@ -28,7 +28,7 @@ use Rattle.walk.proofs.Turns.{to_same, stub_short, mark_form, mark_what, inked_m
 
 module _ {Γ ops args : List ℕ} {s : State} {w : Walk} {more : Option More} (h : Typed Γ) (O : Opens Γ ops args s w more) where
   -- where the folded node stands, and that there is room for a gap
-  opens_node : (w.node < s.nodes) × (0 < 1 + w.fresh.added) × (s.nodes + (1 + w.fresh.added) ≤ 513)
+  pub opens_node : (w.node < s.nodes) × (0 < 1 + w.fresh.added) × (s.nodes + (1 + w.fresh.added) ≤ 513)
   opens_node = (omega (arith, O.at, O.coded.nodes, length-append O.front ((0, 0) ∷ O.back)), omega arith, omega (arith, O.room))
 
   -- the walk by types

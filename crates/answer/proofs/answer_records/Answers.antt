@@ -39,4 +39,4 @@ returns-in-Ok c =
 
 pub returns-in-Err : goal.returns-in-Err
 returns-in-Err c =
-    refuses_says c.print_refusal.ensures (sym (refused_text c.ghost_statements.ensures.whole_told (long 8192) (long 8192) (long 2050) (long 341) c.in-Err.is))
+    refuses_says (rw c.from.ensures at c.print_refusal.ensures) (sym (refused_text c.ghost_statements.ensures.whole_told (long 8192) (long 8192) (long 2050) (long 341) c.in-Err.is))

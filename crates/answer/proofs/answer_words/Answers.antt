@@ -7,7 +7,7 @@ use Rattle.answer.proofs.answer_words.Goals as goal
 
 pub returns-then-function_length-fun : goal.returns-then-function_length-fun
 returns-then-function_length-fun c =
-    refuses_says c.print_refusal.ensures
+    refuses_says (rw c.from.ensures at c.print_refusal.ensures)
     (spare_text _ _ (c.split_at.ensures.back ∙ c.function_start.ensures.function) (omega (arith, c.function_length.ensures)))
 
 pub returns : goal.returns

@@ -20,8 +20,8 @@ returns-in-Some-clause-answered c =
     answered c.requires.ended (λ ps h. says_as c.answer_words.ensures (sym (words_said _ _ _ c.in-Some.is) ∙ said_of ps h))
 
 pub returns-in-None-clause-responds : goal.returns-in-None-clause-responds
-returns-in-None-clause-responds c ps h = refuses_says c.print_refusal.ensures (sym (refusal_said _ _ c.in-None.is) ∙ said_of ps h)
+returns-in-None-clause-responds c ps h = refuses_says (rw c.from.ensures at c.print_refusal.ensures) (sym (refusal_said _ _ c.in-None.is) ∙ said_of ps h)
 
 pub returns-in-None-clause-answered : goal.returns-in-None-clause-answered
 returns-in-None-clause-answered c =
-    answered c.requires.ended (λ ps h. refuses_says c.print_refusal.ensures (sym (refusal_said _ _ c.in-None.is) ∙ said_of ps h))
+    answered c.requires.ended (λ ps h. refuses_says (rw c.from.ensures at c.print_refusal.ensures) (sym (refusal_said _ _ c.in-None.is) ∙ said_of ps h))

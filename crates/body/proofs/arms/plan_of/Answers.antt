@@ -56,14 +56,15 @@ pub subject_at-requires : goal.subject_at-requires
 subject_at-requires c =
     let p = c.requires in
     let (l, u) = reads c.args.fun.now.accepted p.b_bound (sym c.in-Some.ensures) in
-    place_asked c.args.fun.now.accepted l u c.root_before-r.ensures _ _ _ c.local_types.ensures c.ops_from-ops.ensures c.args_from-args.ensures p.stated
+    let a = place_asked c.args.fun.now.accepted l u c.root_before-r.ensures _ _ _ c.local_types-locals.ensures c.ops_from-ops.ensures c.args_from-args.ensures p.stated in
+    (a.0, (a.1.0, (c.args.s.now.nodes, a.1.1)))
 
 pub returns-in_err-subject_at : goal.returns-in_err-subject_at
 returns-in_err-subject_at c E h =
     let p = c.requires in
     let k = sym c.in-Some.ensures in
     let (l, u) = reads c.args.fun.now.accepted p.b_bound k in
-    let w = place_there c.args.fun.now.accepted l u c.root_before-r.ensures _ _ _ c.local_types.ensures c.ops_from-ops.ensures c.args_from-args.ensures c.in_err-subject_at.ensures E h in
+    let w = place_there c.args.fun.now.accepted l u c.root_before-r.ensures _ _ _ c.local_types-locals.ensures c.ops_from-ops.ensures c.args_from-args.ensures (c.in_err-subject_at.ensures c.args.s.now.nodes) E h in
     let r = err_from_is_err_and c.from_residual.result c.from_residual.ensures.1 in
     rw (r.1, r.2) (planned_walk _ _ _ _ E k (same_refused _ _ w))
 
@@ -72,7 +73,7 @@ returns-in-Element c E h =
     let p = c.requires in
     let k = sym c.in-Some.ensures in
     let (l, u) = reads c.args.fun.now.accepted p.b_bound k in
-    let w = place_there c.args.fun.now.accepted l u c.root_before-r.ensures _ _ _ c.local_types.ensures c.ops_from-ops.ensures c.args_from-args.ensures c.in_ok-subject_at.ensures E h in
+    let w = place_there c.args.fun.now.accepted l u c.root_before-r.ensures _ _ _ c.local_types-locals.ensures c.ops_from-ops.ensures c.args_from-args.ensures (c.in_ok-subject_at.ensures c.args.s.now.nodes) E h in
     planned_element _ _ _ _ E k (on_element _ (rw c.in-Element.is at w))
 
 pub try_arms-requires-clause-cases : goal.try_arms-requires-clause-cases
@@ -80,7 +81,7 @@ try_arms-requires-clause-cases c =
     let p = c.requires in
     let k = sym c.in-Some.ensures in
     let (l, u) = reads c.args.fun.now.accepted p.b_bound k in
-    let w = place_there c.args.fun.now.accepted l u c.root_before-r.ensures _ _ _ c.local_types.ensures c.ops_from-ops.ensures c.args_from-args.ensures c.in_ok-subject_at.ensures in
+    let w = place_there c.args.fun.now.accepted l u c.root_before-r.ensures _ _ _ c.local_types-locals.ensures c.ops_from-ops.ensures c.args_from-args.ensures (c.in_ok-subject_at.ensures c.args.s.now.nodes) in
     record { is = k; enum = λ E h. on_enum _ (rw c.in-Enum.is at (w E h)) }
 
 pub try_arms-requires-clause-blank : goal.try_arms-requires-clause-blank

@@ -11,12 +11,12 @@ use Rattle.env.proofs.open.last_step.Goals as goal
 
 pub ensure_unfolded-requires : goal.ensure_unfolded-requires
 ensure_unfolded-requires c =
-    (c.requires.asked.0, (c.requires.asked.1.0, walk_given (unfold_walks (length c.args.locals.now)) c.requires.asked.1.1))
+    (c.requires.asked.0, (c.requires.asked.1.0, (c.args.s.now.nodes, walk_given (unfold_walks (length c.args.locals.now)) c.requires.asked.1.1)))
 
 pub returns-in_err-w : goal.returns-in_err-w
 returns-in_err-w c =
     let e : c.from_residual.result ≡ Err c.in_err-w.field-0.0 = search rules in
-    rw e (λ E q h is. last_refused (element c.args.more) h.trees.fits q (walk_limited (unfold_walks (length c.args.locals.now)) c.requires.asked.1.1 is).known (c.in_err-w.ensures E q h is))
+    rw e (λ E q h is. last_refused (element c.args.more) h.trees.fits q (walk_limited (unfold_walks (length c.args.locals.now)) c.requires.asked.1.1 is).known (c.in_err-w.ensures c.args.s.now.nodes E q h is))
 
 pub last_at-requires : goal.last_at-requires
 last_at-requires c =

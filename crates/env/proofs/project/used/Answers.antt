@@ -10,12 +10,12 @@ use Rattle.env.proofs.Projecting.{projection_refused}
 use Rattle.env.proofs.project.used.Goals as goal
 
 pub ensure_unfolded-requires : goal.ensure_unfolded-requires
-ensure_unfolded-requires c = (c.requires.0, (c.requires.1.0, walk_given (fold_walks (length c.args.locals.now)) c.requires.1.1))
+ensure_unfolded-requires c = (c.requires.0, (c.requires.1.0, (c.args.s.now.nodes, walk_given (fold_walks (length c.args.locals.now)) c.requires.1.1)))
 
 pub returns-in_err-w : goal.returns-in_err-w
 returns-in_err-w c =
     let e : c.from_residual.result ≡ Err c.in_err-w.field-0.0 = search rules in
-    rw e (λ E q h is. projects_refused (projection_refused h.trees.fits q (walk_limited (fold_walks (length c.args.locals.now)) c.requires.1.1 is).known (c.in_err-w.ensures E q h is)))
+    rw e (λ E q h is. projects_refused (projection_refused h.trees.fits q (walk_limited (fold_walks (length c.args.locals.now)) c.requires.1.1 is).known (c.in_err-w.ensures c.args.s.now.nodes E q h is)))
 
 pub used_at-requires : goal.used_at-requires
 used_at-requires c =
