@@ -21,9 +21,9 @@ returns-in_err-w c =
 pub last_at-requires : goal.last_at-requires
 last_at-requires c =
     let g = c.requires.asked.1.1 in
-    let d = walk_sited (unfold_walks (length c.args.locals.now)) g c.in_ok-w.ensures g.holds g.is in record { arrived = (c.args.ops.now, c.args.args.now, d); staying = c.requires.staying }
+    let d = walk_sited (unfold_walks (length c.args.locals.now)) g (c.in_ok-w.ensures c.args.s.now.nodes) g.holds g.is in record { arrived = (c.args.ops.now, c.args.args.now, d); staying = c.requires.staying }
 
 pub returns : goal.returns
 returns c =
     let g = c.requires.asked.1.1 in
-    λ E q h is. c.last_at.ensures c.args.ops.now c.args.args.now (walk_sited (unfold_walks (length c.args.locals.now)) g c.in_ok-w.ensures h is) (given_passes g is)
+    λ E q h is. c.last_at.ensures c.args.ops.now c.args.args.now (walk_sited (unfold_walks (length c.args.locals.now)) g (c.in_ok-w.ensures c.args.s.now.nodes) h is) (given_passes g is)

@@ -46,7 +46,7 @@ pub kind_at-requires : goal.kind_at-requires
 kind_at-requires c =
     let g = c.requires.1.1.1 in
     let h = ready_typed c.requires.0 in
-    record { t_bound = (sited_bud h (walk_sited (used_walks (length c.args.locals.now)) g c.in_ok-w.ensures g.holds g.is)).known }
+    record { t_bound = (sited_bud h (walk_sited (used_walks (length c.args.locals.now)) g (c.in_ok-w.ensures c.requires.1.1.0) g.holds g.is)).known }
 
 -- a walk that ends before the place does ends at an index
 pub returns-then-early : goal.returns-then-early

@@ -19,9 +19,9 @@ returns-in_err-w c =
 
 pub used_at-requires : goal.used_at-requires
 used_at-requires c =
-    let g = c.requires.1.1 in record { sited = walk_sited (fold_walks (length c.args.locals.now)) g c.in_ok-w.ensures g.holds g.is }
+    let g = c.requires.1.1 in record { sited = walk_sited (fold_walks (length c.args.locals.now)) g (c.in_ok-w.ensures c.args.s.now.nodes) g.holds g.is }
 
 pub returns : goal.returns
 returns c =
     let g = c.requires.1.1 in
-    λ E q h is. c.used_at.ensures (walk_sited (fold_walks (length c.args.locals.now)) g c.in_ok-w.ensures h is) (given_passes g is)
+    λ E q h is. c.used_at.ensures (walk_sited (fold_walks (length c.args.locals.now)) g (c.in_ok-w.ensures c.args.s.now.nodes) h is) (given_passes g is)
